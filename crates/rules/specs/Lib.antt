@@ -1,0 +1,11 @@
+pub mod Terms
+pub mod Line
+pub mod Extra
+pub mod Decide
+pub mod Step
+pub mod Open
+pub mod History
+pub mod Demand
+pub mod Delay
+pub mod Account
+pub mod Bounds
