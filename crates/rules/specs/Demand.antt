@@ -59,3 +59,9 @@ module _ (σ : Terms) where
       → after σ fresh before .queue ≡ marked m ∷ q
       → step σ (after σ fresh before) (advance t) .answer ≡ started x
       → (x .what ≡ marked m) ↔ NonePasses (due (after σ fresh before)) q (span σ m)
+
+  -- The demand: its three sentences.
+  pub record Demand3 : Type 0 where
+    pub a : Demand3a
+    pub b : Demand3b
+    pub c : Demand3c
