@@ -1,24 +1,20 @@
 -- Openings: refused exactly out of range, and bounded from there on. Assumes nothing.
 use mathlib.Core.Path.{_≡_, refl, sym, _∙_}
 use mathlib.Core.Logic.{_↔_}
-use mathlib.Core.Bool.{Bool, true, false, not, _&&_}
-use mathlib.Core.List.{List, [], _∷_}
 use mathlib.Core.Option.{Option, none, some, Option·some-ne-none}
-use Prim.Native.Nat.{ℕ, _*_, _≤_}
+use Prim.Native.Nat.{ℕ, _≤_}
 use native.Mathlib.Nat.{mul-le-mul}
 use native.Mathlib.Omega.{arith}
 use borrow.Author.Tests.{leb-true, le-leb}
 use lib.Dec.{leb}
 use Rattle.refusals.specs.First.{firstOf}
 use Rattle.refusals.proofs.Laws.{passes, given}
-use Rattle.units.specs.declared.Ticks.{Ticks}
 use Rattle.units.specs.declared.Settings.{Settings}
-use Rattle.units.specs.Limits.{alphaMost, ticksPerByteMost, lengthMost, settingsTests}
+use Rattle.units.specs.Limits.{alphaMost, ticksPerByteMost, settingsTests}
 use Rattle.rules.specs.Terms.{termsOf}
 use Rattle.rules.specs.Line.{fresh}
-use Rattle.rules.specs.Step.{Call, after}
 use Rattle.rules.specs.Open.{opened, opening}
-use Rattle.rules.specs.Bounds.{TimeMost, Bounds}
+use Rattle.rules.specs.Bounds.{TimeMost}
 use Rattle.rules.specs.Opened.{InRange, OpensInRange, OpensSound, timeMost, OpensBounded}
 use Rattle.rules.proofs.Moves.{both}
 use Rattle.rules.proofs.Bounded.{all-bounded}
