@@ -19,6 +19,11 @@ number-add s at n (suc m) =
     (ap (λ (x : ℕ). x * 256 + getD s (at + (n + m)) 0) (number-add s at n m)
     ∙ simp (add-mul, pow-suc, mul-assoc, add-assoc))
 
+-- A byte spells itself.
+pub number-one : (s : List ℕ) (at : ℕ) → numberAt s at 1 ≡ getD s at 0
+unfolding numberAt
+number-one s at = rw (add-zero at) (omega arith)
+
 -- Equal bytes spell equal numbers.
 pub number-ext : (s t : List ℕ) (a b n : ℕ) → ((k : ℕ) → k < n → getD s (a + k) 0 ≡ getD t (b + k) 0) → numberAt s a n ≡ numberAt t b n
 unfolding numberAt
@@ -64,7 +69,7 @@ octets-add n (suc m) v =
     (ap (λ (k : ℕ). octetsOf n k ++ octetsOf (suc m) v) (div-div-eq-div-mul v 256 (256 ^ m) ∙ ap (λ (k : ℕ). v / k) (mul-comm 256 (256 ^ m) ∙ sym (pow-suc 256 m))))
 
 -- What stands above the n bytes does not matter.
-octets-mod : (n v : ℕ) → octetsOf n (v % 256 ^ n) ≡ octetsOf n v
+pub octets-mod : (n v : ℕ) → octetsOf n (v % 256 ^ n) ≡ octetsOf n v
 unfolding octetsOf
 octets-mod zero v = refl
 octets-mod (suc n) v =
