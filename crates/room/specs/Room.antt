@@ -1,4 +1,5 @@
--- The waiting room as its columns hold it: packet number n in slot n % 128, the k-th admitted unmarked packet in slot k % 64. Assumes nothing.
+-- The waiting room as its columns hold it. A packet's rank is how many were admitted before it, its number less 1; rank n stands in slot
+-- n % 128. In the difference queue the rank counts unmarked packets alone, and n stands in slot n % 64. Assumes nothing.
 use mathlib.Core.Bool.{Bool, true, false}
 use mathlib.Core.List.{List, [], _∷_}
 use Prim.Native.Nat.{ℕ, _%_}
@@ -35,52 +36,52 @@ byCode false = Marked
 abbrev pub markingOf : ℕ → Marking
 markingOf code = byCode (eqb code 0)
 
-abbrev pub slotOf : ℕ → ℕ
-slotOf number = number % 128
+abbrev pub slotOf : (rank : ℕ) → ℕ
+slotOf rank = rank % 128
 
-abbrev pub turnOf : ℕ → ℕ
-turnOf k = k % 64
+abbrev pub turnOf : (rank : ℕ) → ℕ
+turnOf rank = rank % 64
 
--- The packet that was put under this number, while no later one took its slot.
-abbrev pub packetIn : (markings lengths places arrivals : List ℕ) → (number : ℕ) → Packet
-packetIn m l p a number =
+-- The packet of this rank, while no later one took its slot.
+abbrev pub packetIn : (markings lengths places arrivals : List ℕ) → (rank : ℕ) → Packet
+packetIn m l p a rank =
     record {
-      marking = markingOf (getD m (slotOf number) 0);
-      length = record { 0 = getD l (slotOf number) 0 };
-      place = getD p (slotOf number) 0;
-      arrival = record { 0 = getD a (slotOf number) 0 };
+      marking = markingOf (getD m (slotOf rank) 0);
+      length = record { 0 = getD l (slotOf rank) 0 };
+      place = getD p (slotOf rank) 0;
+      arrival = record { 0 = getD a (slotOf rank) 0 };
     }
 
-abbrev pub packetAt : Room → (number : ℕ) → Packet
-packetAt r number = packetIn (r .markings) (r .lengths) (r .places) (r .arrivals) number
+abbrev pub packetAt : Room → (rank : ℕ) → Packet
+packetAt r rank = packetIn (r .markings) (r .lengths) (r .places) (r .arrivals) rank
 
--- The number of the k-th admitted unmarked packet, and its predecessor's extra delay minus its own.
-abbrev pub numberAt : Room → (k : ℕ) → ℕ
-numberAt r k = getD (r .numbers) (turnOf k) 0
+-- Of an unmarked packet, its number, and its predecessor's extra delay minus its own.
+abbrev pub numberAt : Room → (rank : ℕ) → ℕ
+numberAt r rank = getD (r .numbers) (turnOf rank) 0
 
-abbrev pub differenceAt : Room → (k : ℕ) → ℕ
-differenceAt r k = getD (r .differences) (turnOf k) 0
+abbrev pub differenceAt : Room → (rank : ℕ) → ℕ
+differenceAt r rank = getD (r .differences) (turnOf rank) 0
 
--- The room once a packet was put under a number.
-abbrev pub withPacket : Room → (number : ℕ) → Packet → Room
-withPacket r number p =
+-- The room once a packet was put there.
+abbrev pub withPacket : Room → (rank : ℕ) → Packet → Room
+withPacket r rank p =
     record {
-      markings = set (r .markings) (slotOf number) (codeOf (p .marking));
-      lengths = set (r .lengths) (slotOf number) (p .length .0);
-      places = set (r .places) (slotOf number) (p .place);
-      arrivals = set (r .arrivals) (slotOf number) (p .arrival .0);
+      markings = set (r .markings) (slotOf rank) (codeOf (p .marking));
+      lengths = set (r .lengths) (slotOf rank) (p .length .0);
+      places = set (r .places) (slotOf rank) (p .place);
+      arrivals = set (r .arrivals) (slotOf rank) (p .arrival .0);
       numbers = r .numbers;
       differences = r .differences;
     }
 
--- The room once the k-th admitted unmarked packet is in the difference queue.
-abbrev pub withDifference : Room → (k number less : ℕ) → Room
-withDifference r k number less =
+-- The room once an unmarked packet is in the difference queue.
+abbrev pub withDifference : Room → (rank number less : ℕ) → Room
+withDifference r rank number less =
     record {
       markings = r .markings;
       lengths = r .lengths;
       places = r .places;
       arrivals = r .arrivals;
-      numbers = set (r .numbers) (turnOf k) number;
-      differences = set (r .differences) (turnOf k) less;
+      numbers = set (r .numbers) (turnOf rank) number;
+      differences = set (r .differences) (turnOf rank) less;
     }

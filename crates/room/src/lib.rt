@@ -33,21 +33,21 @@ fn marking_of(code: u8) -> Marking
     Marking::Marked
 }
 
-// Puts a packet under its number.
+// Puts the packet of this rank there.
 pub fn put(
     packet: Packet,
-    number: u32,
+    rank: u32,
     markings: &mut [u8; 128],
     lengths: &mut [u32; 128],
     places: &mut [u32; 128],
     arrivals: &mut [u64; 128],
 )
-    ensures marking { λ r. ⌜ now (markings .exit) ≡ set (now (markings .entry)) (slotOf number) (codeOf (packet .marking)) ⌝ }
-    ensures length { λ r. ⌜ now (lengths .exit) ≡ set (now (lengths .entry)) (slotOf number) (packet .length .0) ⌝ }
-    ensures place { λ r. ⌜ now (places .exit) ≡ set (now (places .entry)) (slotOf number) (packet .place) ⌝ }
-    ensures arrival { λ r. ⌜ now (arrivals .exit) ≡ set (now (arrivals .entry)) (slotOf number) (packet .arrival .0) ⌝ }
+    ensures marking { λ r. ⌜ now (markings .exit) ≡ set (now (markings .entry)) (slotOf rank) (codeOf (packet .marking)) ⌝ }
+    ensures length { λ r. ⌜ now (lengths .exit) ≡ set (now (lengths .entry)) (slotOf rank) (packet .length .0) ⌝ }
+    ensures place { λ r. ⌜ now (places .exit) ≡ set (now (places .entry)) (slotOf rank) (packet .place) ⌝ }
+    ensures arrival { λ r. ⌜ now (arrivals .exit) ≡ set (now (arrivals .entry)) (slotOf rank) (packet .arrival .0) ⌝ }
 {
-    let slot = (number % 128) as usize;
+    let slot = (rank % 128) as usize;
     let marking = packet.marking;
     let code = code_of(marking);
     markings[slot] = code;
@@ -56,17 +56,17 @@ pub fn put(
     arrivals[slot] = packet.arrival.0;
 }
 
-// Gives back the packet that was put under this number.
+// Gives back the packet of this rank.
 pub fn packet_at(
-    number: u32,
+    rank: u32,
     markings: &[u8; 128],
     lengths: &[u32; 128],
     places: &[u32; 128],
     arrivals: &[u64; 128],
 ) -> Packet
-    ensures { λ r. ⌜ r ≡ packetIn (now (markings .entry)) (now (lengths .entry)) (now (places .entry)) (now (arrivals .entry)) number ⌝ }
+    ensures { λ r. ⌜ r ≡ packetIn (now (markings .entry)) (now (lengths .entry)) (now (places .entry)) (now (arrivals .entry)) rank ⌝ }
 {
-    let from = (number % 128) as usize;
+    let from = (rank % 128) as usize;
     Packet {
         marking: marking_of(markings[from]),
         length: Bytes(lengths[from]),
@@ -75,28 +75,34 @@ pub fn packet_at(
     }
 }
 
-// Enters the k-th admitted unmarked packet in the difference queue.
-pub fn enter(k: u32, number: u32, less: Ticks, numbers: &mut [u32; 64], differences: &mut [u64; 64])
-    ensures number { λ r. ⌜ now (numbers .exit) ≡ set (now (numbers .entry)) (turnOf k) number ⌝ }
-    ensures difference { λ r. ⌜ now (differences .exit) ≡ set (now (differences .entry)) (turnOf k) (less .0) ⌝ }
+// Enters an unmarked packet, of this rank among the unmarked, in the difference queue.
+pub fn enter(
+    rank: u32,
+    number: u32,
+    less: Ticks,
+    numbers: &mut [u32; 64],
+    differences: &mut [u64; 64],
+)
+    ensures number { λ r. ⌜ now (numbers .exit) ≡ set (now (numbers .entry)) (turnOf rank) number ⌝ }
+    ensures difference { λ r. ⌜ now (differences .exit) ≡ set (now (differences .entry)) (turnOf rank) (less .0) ⌝ }
 {
-    let turn = (k % 64) as usize;
+    let turn = (rank % 64) as usize;
     numbers[turn] = number;
     differences[turn] = less.0;
 }
 
-// The number of the k-th admitted unmarked packet.
-pub fn number_of(k: u32, numbers: &[u32; 64]) -> u32
-    ensures { λ r. ⌜ r ≡ getD (now (numbers .entry)) (turnOf k) 0 ⌝ }
+// The number of the unmarked packet of this rank.
+pub fn number_of(rank: u32, numbers: &[u32; 64]) -> u32
+    ensures { λ r. ⌜ r ≡ getD (now (numbers .entry)) (turnOf rank) 0 ⌝ }
 {
-    let turn = (k % 64) as usize;
+    let turn = (rank % 64) as usize;
     numbers[turn]
 }
 
 // How much less its extra delay is than its predecessor's.
-pub fn difference_of(k: u32, differences: &[u64; 64]) -> Ticks
-    ensures { λ r. ⌜ r .0 ≡ getD (now (differences .entry)) (turnOf k) 0 ⌝ }
+pub fn difference_of(rank: u32, differences: &[u64; 64]) -> Ticks
+    ensures { λ r. ⌜ r .0 ≡ getD (now (differences .entry)) (turnOf rank) 0 ⌝ }
 {
-    let turn = (k % 64) as usize;
+    let turn = (rank % 64) as usize;
     Ticks(differences[turn])
 }
