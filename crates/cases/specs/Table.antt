@@ -2,9 +2,7 @@
 use mathlib.Core.Path.{_≡_}
 use mathlib.Core.List.{List, [], _∷_, _++_, map}
 use Prim.Native.Nat.{ℕ}
-use Rattle.units.specs.declared.Ticks.{Ticks}
 use Rattle.units.specs.declared.Settings.{Settings}
-use Rattle.units.specs.declared.Marking.{Marking}
 use Rattle.units.specs.declared.Marking.the-variants.{Unmarked, Marked}
 use Rattle.units.specs.Time.{transmissionTime}
 use Rattle.rules.specs.Terms.{termsOf}

@@ -1,8 +1,8 @@
--- No refusal means that every test was passed. Assumes nothing.
-use mathlib.Core.Path.{_≡_, refl}
+-- No refusal means that every test was passed, and a refusal's number is one of the table's. Assumes nothing.
+use mathlib.Core.Path.{_≡_, refl, sym, subst}
 use mathlib.Core.Bool.{Bool, true, false}
 use mathlib.Core.List.{List, [], _∷_}
-use mathlib.Core.Option.{Option, none, some, Option·some-ne-none}
+use mathlib.Core.Option.{Option, none, some, Option·some-ne-none, Option·some-injective}
 use Prim.Native.Nat.{ℕ}
 use Rattle.refusals.specs.First.{Test, orElse, firstOf, Passes}
 
@@ -15,3 +15,16 @@ passes [] e = tt
 passes (t ∷ ts) e =
     let h = passed (t .holds) (t .number) (firstOf ts) e in
     (h .0, passes ts (h .1))
+
+-- P holds of each number of the table.
+abbrev pub EachNumber : (ℕ → Type 0) → List Test → Type 0
+EachNumber P [] = Unit {0}
+EachNumber P (t ∷ ts) = P (t .number) × EachNumber P ts
+
+given-by : (P : ℕ → Type 0) (b : Bool) (m n : ℕ) (next : Option ℕ) → P m → (next ≡ some n → P n) → orElse b m next ≡ some n → P n
+given-by P true m n next p go e = subst P (Option·some-injective m n e) p
+given-by P false m n next p go e = go e
+
+pub given : (P : ℕ → Type 0) (ts : List Test) (n : ℕ) → EachNumber P ts → firstOf ts ≡ some n → P n
+given P [] n h e = absurd (Option·some-ne-none n (sym e))
+given P (t ∷ ts) n h e = given-by P (t .holds) (t .number) n (firstOf ts) (h .0) (given P ts n (h .1)) e

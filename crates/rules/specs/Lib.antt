@@ -9,3 +9,4 @@ pub mod Demand
 pub mod Delay
 pub mod Account
 pub mod Bounds
+pub mod Opened

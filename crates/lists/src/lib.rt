@@ -1,0 +1,1 @@
+// Lists made piece by piece, as loops make them: definitions in specs/, laws in proofs/.
