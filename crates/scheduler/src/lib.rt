@@ -4,7 +4,7 @@ ghost use Prim.Native.Nat.{_+_, _-_, _≤_};
 ghost use lib.ListN.{set};
 ghost use Rattle.room.specs.Room.{columns, turnOf};
 ghost use Rattle.state.specs.Counts.{admissionsOf};
-ghost use Rattle.state.specs.Bounds.{timeMost, Small};
+ghost use Rattle.state.specs.Bounds.{timesMost, Small};
 ghost use Rattle.scheduler.specs.Calls.{openOf, timeOf, newDelay, admitUnmarked, admitMarked, admitOf, admitRoom, sentOf, startHead, startFirst, decideOf};
 ghost use Rattle.scheduler.specs.Bounds.{Admits, HeadStarts, FirstStarts, Decides};
 use room::Packet;
@@ -148,7 +148,7 @@ fn admit(
 
 // Whether the packet at the head is marked and fits.
 fn sent(scheduler: Scheduler, head: Packet) -> bool
-    requires { ⌜ Small scheduler × (timeOf scheduler head .0 ≤ timeMost) ⌝ }
+    requires { ⌜ Small scheduler × (timeOf scheduler head .0 ≤ timesMost) ⌝ }
     ensures { λ r. ⌜ r ≡ sentOf scheduler head ⌝ }
 {
     let marking = head.marking;

@@ -1,15 +1,15 @@
 // The scheduler's own numbers, and what each step makes of them; the packets stand in the room. For the crate `scheduler` only.
 ghost use mathlib.Core.Path.{_≡_};
-ghost use Prim.Native.Nat.{_+_, _-_, _*_, _≤_, _<_, min, max};
+ghost use Prim.Native.Nat.{_+_, _-_, _≤_, _<_, min, max};
 ghost use Rattle.refusals.specs.First.{firstOf, numberOf};
-ghost use Rattle.units.specs.Limits.{alphaMost, instantMost, waitingMost, admissionsMost};
+ghost use Rattle.units.specs.Limits.{alphaMost, instantMost, admissionsMost};
 ghost use Rattle.rules.specs.Terms.{termsOf};
 ghost use Rattle.rules.specs.Step.{outlasts};
 ghost use Rattle.state.specs.Counts.{admissionsOf, goneOf, waitingOf, waitsOf, Counted};
 ghost use Rattle.state.specs.Delays.{dueOf, followsOf, ownOf, joinedOf, delayedOf, passedOf, fitsOf};
 ghost use Rattle.state.specs.Refusals.{overdueOf, arrivalTests, advanceTests};
 ghost use Rattle.state.specs.Steps.{freshOf, admittedUnmarked, admittedMarked, startedMarked, startedUnmarked, idleAt};
-ghost use Rattle.state.specs.Bounds.{timeMost, Small};
+ghost use Rattle.state.specs.Bounds.{timesMost, Small};
 use units::Bytes;
 use units::Instant;
 use units::Marking;
@@ -203,7 +203,7 @@ fn follows(line: Line, waiting: u32, at: Instant) -> bool
 
 // The extra delay of a new unmarked packet.
 pub fn own_delay(line: Line, extra: Extra, waiting: u32, at: Instant) -> Ticks
-    requires { ⌜ (line .free .0 ≤ instantMost + timeMost) × (extra .sum .0 ≤ waitingMost * timeMost) ⌝ }
+    requires { ⌜ (line .free .0 ≤ instantMost + timesMost) × (extra .sum .0 ≤ timesMost) ⌝ }
     ensures { λ r. ⌜ r ≡ ownOf line extra waiting at ⌝ }
 {
     let rest = less(line.free.0, at.0);
@@ -223,7 +223,7 @@ pub fn difference(extra: Extra, own: Ticks) -> Ticks
 
 // One more unmarked packet waits.
 fn joined(extra: Extra, waiting: u32, time: Ticks, own: Ticks) -> Extra
-    requires { ⌜ (extra .sum .0 ≤ waitingMost * timeMost) × (time .0 ≤ timeMost) ⌝ }
+    requires { ⌜ (extra .sum .0 ≤ timesMost) × (time .0 ≤ timesMost) ⌝ }
     ensures { λ r. ⌜ r ≡ joinedOf extra waiting time own ⌝ }
 {
     let sum = Ticks(extra.sum.0 + time.0);
@@ -244,7 +244,7 @@ fn joined(extra: Extra, waiting: u32, time: Ticks, own: Ticks) -> Extra
 
 // A marked packet started: every waiting unmarked packet is that much later.
 fn delayed(extra: Extra, waiting: u32, time: Ticks) -> Extra
-    requires { ⌜ (extra .first .0 ≤ alphaMost) × (extra .last .0 ≤ alphaMost) × (time .0 ≤ timeMost) ⌝ }
+    requires { ⌜ (extra .first .0 ≤ alphaMost) × (extra .last .0 ≤ alphaMost) × (time .0 ≤ timesMost) ⌝ }
     ensures { λ r. ⌜ r ≡ delayedOf extra waiting time ⌝ }
 {
     if waiting == 0 {
@@ -274,7 +274,7 @@ fn passed(extra: Extra, waiting: u32, time: Ticks, difference: Ticks) -> Extra
 
 // Whether a marked packet of this transmission time may start before the first waiting unmarked one.
 pub fn fits(settings: Settings, extra: Extra, waiting: u32, time: Ticks) -> bool
-    requires { ⌜ (extra .first .0 ≤ alphaMost) × (time .0 ≤ timeMost) ⌝ }
+    requires { ⌜ (extra .first .0 ≤ alphaMost) × (time .0 ≤ timesMost) ⌝ }
     ensures { λ r. ⌜ r ≡ fitsOf settings extra waiting time ⌝ }
 {
     if waiting == 0 {
@@ -335,7 +335,7 @@ pub fn admit_marked(scheduler: Scheduler, at: Instant) -> Scheduler
 }
 
 pub fn admit_unmarked(scheduler: Scheduler, time: Ticks, own: Ticks, at: Instant) -> Scheduler
-    requires { ⌜ Small scheduler × (scheduler .tallies .admitted .unmarked < admissionsMost) × (time .0 ≤ timeMost) ⌝ }
+    requires { ⌜ Small scheduler × (scheduler .tallies .admitted .unmarked < admissionsMost) × (time .0 ≤ timesMost) ⌝ }
     ensures { λ r. ⌜ r ≡ admittedUnmarked scheduler time own at ⌝ }
 {
     let waiting = waiting(Marking::Unmarked, scheduler.tallies);
@@ -349,7 +349,7 @@ pub fn admit_unmarked(scheduler: Scheduler, time: Ticks, own: Ticks, at: Instant
 }
 
 pub fn start_marked(scheduler: Scheduler, due: Instant, time: Ticks, at: Instant) -> Scheduler
-    requires { ⌜ Small scheduler × (scheduler .tallies .started .marked < admissionsMost) × (due .0 ≤ instantMost) × (time .0 ≤ timeMost) ⌝ }
+    requires { ⌜ Small scheduler × (scheduler .tallies .started .marked < admissionsMost) × (due .0 ≤ instantMost) × (time .0 ≤ timesMost) ⌝ }
     ensures { λ r. ⌜ r ≡ startedMarked scheduler due time at ⌝ }
 {
     let waiting = waiting(Marking::Unmarked, scheduler.tallies);
@@ -375,7 +375,7 @@ pub fn start_unmarked(
     dropped: u32,
     at: Instant,
 ) -> Scheduler
-    requires { ⌜ Small scheduler × (scheduler .tallies .started .unmarked < admissionsMost) × (scheduler .tallies .dropped + dropped ≤ admissionsMost) × (due .0 ≤ instantMost) × (time .0 ≤ timeMost) ⌝ }
+    requires { ⌜ Small scheduler × (scheduler .tallies .started .unmarked < admissionsMost) × (scheduler .tallies .dropped + dropped ≤ admissionsMost) × (due .0 ≤ instantMost) × (time .0 ≤ timesMost) ⌝ }
     ensures { λ r. ⌜ r ≡ startedUnmarked scheduler due time difference dropped at ⌝ }
 {
     let waiting = waiting(Marking::Unmarked, scheduler.tallies);
