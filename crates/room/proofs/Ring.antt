@@ -27,6 +27,14 @@ module _ {A : Type 0} where
         held-more f g (suc n) xs x (λ j a b. same j (omega arith) (omega arith)) (rw z at e) (h .1),
       )
 
+  -- What stands behind the first ones.
+  pub held-behind : (f : ℕ → A) (n : ℕ) (xs : List A) (x : A) (ys : List A) → Held f n (xs ++ x ∷ ys)
+      → (f (n + length xs) ≡ x) × Held f (suc (n + length xs)) ys
+  held-behind f n [] x ys h = let z : n + 0 ≡ n = omega arith in rw z h
+  held-behind f n (y ∷ xs) x ys h =
+      let z : n + suc (length xs) ≡ suc n + length xs = omega arith in
+      rw z (held-behind f (suc n) xs x ys (h .1))
+
 -- Numbers less than m apart stand in different slots of a ring of m.
 abbrev pub Apart : (m : ℕ) → Type 0
 Apart m = (j k : ℕ) → j < k → k < j + m → j % m ≡ k % m → ⊥

@@ -1,1 +1,6 @@
 pub mod Rooms
+pub mod Queues
+pub mod Delays
+pub mod Tests
+pub mod More
+pub mod Admitted

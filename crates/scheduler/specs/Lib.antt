@@ -1,2 +1,5 @@
 pub mod Calls
 pub mod Bounds
+pub mod Values
+pub mod Machine
+pub mod Represents
