@@ -4,3 +4,5 @@ pub mod Delays
 pub mod Tests
 pub mod More
 pub mod Admitted
+pub mod Less
+pub mod Started
