@@ -6,3 +6,6 @@ pub mod More
 pub mod Admitted
 pub mod Less
 pub mod Started
+pub mod Heads
+pub mod Arrives
+pub mod Advances

@@ -3,3 +3,4 @@ pub mod Bounds
 pub mod Values
 pub mod Machine
 pub mod Represents
+pub mod Agreement
