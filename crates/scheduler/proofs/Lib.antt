@@ -9,3 +9,4 @@ pub mod Started
 pub mod Heads
 pub mod Arrives
 pub mod Advances
+pub mod Follows
