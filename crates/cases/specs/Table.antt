@@ -6,20 +6,9 @@ use Rattle.units.specs.declared.Settings.{Settings}
 use Rattle.units.specs.declared.Marking.the-variants.{Unmarked, Marked}
 use Rattle.units.specs.Time.{transmissionTime}
 use Rattle.rules.specs.Terms.{termsOf}
-use Rattle.rules.specs.Line.{unmarked, marked, Tallies, fresh}
-use Rattle.rules.specs.Step.{Call, arrive, advance, Answer, admitted, started, nothingDue, refused, after, answers}
-use Rattle.rules.specs.History.{numberOf}
-
--- A line of the trace program's text as numbers, its letter as the byte that is printed.
-abbrev pub lineOf : Answer → List ℕ
-lineOf (admitted (unmarked p) e) = 65 ∷ p .number ∷ e ∷ []
-lineOf (admitted (marked m) e) = 77 ∷ m .number ∷ []
-lineOf (started s) = 83 ∷ numberOf s ∷ s .at ∷ s .extra ∷ s .dropped ∷ []
-lineOf nothingDue = 78 ∷ []
-lineOf (refused n) = 82 ∷ n ∷ []
-
-abbrev pub tallyLine : Tallies → List ℕ
-tallyLine k = 84 ∷ k .unmarkedAdmitted ∷ k .markedAdmitted ∷ k .unmarkedStarted ∷ k .markedStarted ∷ k .markedDropped ∷ []
+use Rattle.rules.specs.Line.{fresh}
+use Rattle.rules.specs.Step.{Call, arrive, advance, after, answers}
+use Rattle.rules.specs.Printed.{lineOf, tallyLine}
 
 -- Alpha 100, 1 tick per byte.
 abbrev pub settings : Settings

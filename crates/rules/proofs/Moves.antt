@@ -88,7 +88,7 @@ module _ (σ : Terms) where
         → fits σ d (span σ m) (w ∷ unmarkedOf r) ≡ false
         → Choice d (marked m ∷ (map marked ms ++ unmarked w ∷ r)) (record { what = unmarked w; dropped = m ∷ ms; rest = r })
 
-  abbrev ChoiceIn : (d : ℕ) → List Waiting → Option Decision → Type 0
+  abbrev pub ChoiceIn : (d : ℕ) → List Waiting → Option Decision → Type 0
   ChoiceIn d q none = q ≡ []
   ChoiceIn d q (some c) = Choice d q c
 

@@ -1,0 +1,12 @@
+pub mod Rooms
+pub mod Queues
+pub mod Delays
+pub mod Tests
+pub mod More
+pub mod Admitted
+pub mod Less
+pub mod Started
+pub mod Heads
+pub mod Arrives
+pub mod Advances
+pub mod Follows

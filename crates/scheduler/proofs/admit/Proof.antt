@@ -1,0 +1,45 @@
+-- `scheduler::admit` meets its contract: each marking's admission, with the columns that `put` leaves. Assumes nothing.
+use mathlib.Core.Path.{refl}
+use Rattle.scheduler.proofs.Rooms.{unmarked-answer, unmarked-room, marked-room}
+use Rattle.scheduler.specs.Calls.{admitOf}
+use borrow.Author.Needs.{needs}
+use Rattle.scheduler.proofs.admit.Statement.{statement}
+use Rattle.scheduler.proofs.admit.Tie as tie
+
+admissions-requires : tie.Need-admissions-requires
+admissions-requires c κs = search needs
+
+put-requires : tie.Need-put-requires
+put-requires c κs = search needs
+
+enum-told : tie.Need-enum-told
+enum-told c = search needs
+
+admit-unmarked-requires : tie.Need-admit-unmarked-requires
+admit-unmarked-requires c κs = search needs
+
+enum-told-2 : tie.Need-enum-told-2
+enum-told-2 c = search needs
+
+admit-marked-requires : tie.Need-admit-marked-requires
+admit-marked-requires c κs = search needs
+
+returns : tie.Need-returns
+returns c = (unmarked-answer (c .before .before .before .before .before .before .before .before .before .before .before .args .scheduler) (c .before .before .before .before .before .before .before .before .before .before .before .args .packet) _ (c .before .before .before .enum-told .given .1) (c .admit-unmarked .ensures .0), unmarked-room _ _ _ _ _ _ _ _ _ (record { marking = simp (c .before .before .before .before .before .put .ensures .0, c .before .before .before .before .before .before .before .before .before .before .admissions .ensures); length = simp (c .before .before .before .before .before .put .ensures .1 .0, c .before .before .before .before .before .before .before .before .before .before .admissions .ensures); place = simp (c .before .before .before .before .before .put .ensures .1 .1 .0, c .before .before .before .before .before .before .before .before .before .before .admissions .ensures); arrival = simp (c .before .before .before .before .before .put .ensures .1 .1 .1, c .before .before .before .before .before .before .before .before .before .before .admissions .ensures) }) (c .before .before .before .enum-told .given .1) (c .admit-unmarked .ensures .1 .0) (c .admit-unmarked .ensures .1 .1))
+
+returns-2 : tie.Need-returns-2
+unfolding admitOf
+returns-2 c = (simp (c .before .enum-told2 .given .1, c .admit-marked .ensures), marked-room _ _ _ _ _ _ _ _ _ (record { marking = simp (c .before .before .before .put .ensures .0, c .before .before .before .before .before .before .before .before .admissions .ensures); length = simp (c .before .before .before .put .ensures .1 .0, c .before .before .before .before .before .before .before .before .admissions .ensures); place = simp (c .before .before .before .put .ensures .1 .1 .0, c .before .before .before .before .before .before .before .before .admissions .ensures); arrival = simp (c .before .before .before .put .ensures .1 .1 .1, c .before .before .before .before .before .before .before .before .admissions .ensures) }) (c .before .enum-told2 .given .1) refl refl)
+
+pub admit-spec : {M : Type 1} → statement M
+admit-spec =
+    tie.close
+    (tie.spec
+    admissions-requires
+    put-requires
+    enum-told
+    admit-unmarked-requires
+    enum-told-2
+    admit-marked-requires
+    returns
+    returns-2)

@@ -1,0 +1,45 @@
+-- `scheduler::admit_unmarked` meets its contract: it is the definition, with what the callees give and leave. Assumes nothing.
+use borrow.Author.Needs.{needs}
+use Rattle.scheduler.proofs.admit_unmarked.Statement.{statement}
+use Rattle.scheduler.proofs.admit_unmarked.Tie as tie
+
+admissions-requires : tie.Need-admissions-requires
+admissions-requires c κs = search needs
+
+add-number : tie.Need-add-number
+add-number c = search needs
+
+waiting-requires : tie.Need-waiting-requires
+waiting-requires c κs = search needs
+
+own-delay-requires : tie.Need-own-delay-requires
+own-delay-requires c κs = search needs
+
+difference-requires : tie.Need-difference-requires
+difference-requires c κs = search needs
+
+enter-requires : tie.Need-enter-requires
+enter-requires c κs = search needs
+
+transmission-time-requires : tie.Need-transmission-time-requires
+transmission-time-requires c κs = search needs
+
+admit-unmarked-requires : tie.Need-admit-unmarked-requires
+admit-unmarked-requires c κs = search needs
+
+returns : tie.Need-returns
+returns c = (simp (c .admit-unmarked .ensures, c .before .transmission-time .ensures, c .before .before .before .before .before .before .own-delay .ensures, c .before .before .before .before .before .before .before .waiting .ensures, c .before .before .before .before .before .before .before .before .admissions .ensures), (simp (c .before .before .enter .ensures .0, c .before .before .before .before .before .before .before .before .admissions .ensures), simp (c .before .before .enter .ensures .1, c .before .before .before .before .before .difference .ensures, c .before .before .before .before .before .before .own-delay .ensures, c .before .before .before .before .before .before .before .waiting .ensures)))
+
+pub admit-unmarked-spec : {M : Type 1} → statement M
+admit-unmarked-spec =
+    tie.close
+    (tie.spec
+    admissions-requires
+    add-number
+    waiting-requires
+    own-delay-requires
+    difference-requires
+    enter-requires
+    transmission-time-requires
+    admit-unmarked-requires
+    returns)

@@ -1,0 +1,150 @@
+-- What each call gives, and what it leaves in the room: exactly, for accepted and refused calls alike. Assumes nothing.
+use mathlib.Core.Bool.{Bool, true, false}
+use Prim.Native.Nat.{ℕ, _+_, _-_}
+use lib.Dec.{leb, ltb, eqb}
+use Rattle.refusals.specs.First.{firstOf, numberOf}
+use Rattle.units.specs.declared.Bytes.{Bytes}
+use Rattle.units.specs.declared.Ticks.{Ticks}
+use Rattle.units.specs.declared.Instant.{Instant}
+use Rattle.units.specs.declared.Settings.{Settings}
+use Rattle.units.specs.declared.Marking.{Marking}
+use Rattle.units.specs.declared.Marking.the-variants.{Unmarked, Marked}
+use Rattle.units.specs.Limits.{settingsTests, leastSettings}
+use Rattle.units.specs.Time.{transmissionTime}
+use Rattle.room.specs.declared.Packet.{Packet}
+use Rattle.room.specs.Room.{Room, packetAt, numberAt, differenceAt, withPacket, withDifference}
+use Rattle.state.specs.declared.Scheduler.{Scheduler}
+use Rattle.state.specs.Counts.{admissionsOf, goneOf, waitingOf, waitsOf}
+use Rattle.state.specs.Delays.{pick, dueOf, ownOf, fitsOf}
+use Rattle.state.specs.Refusals.{arrivalTests, advanceTests}
+use Rattle.state.specs.Steps.{freshOf, admittedUnmarked, admittedMarked, startedMarked, startedUnmarked, idleAt}
+use Rattle.scheduler.specs.declared.Opening.{Opening}
+use Rattle.scheduler.specs.declared.Opened.{Opened}
+use Rattle.scheduler.specs.declared.Admission.{Admission}
+use Rattle.scheduler.specs.declared.Arrived.{Arrived}
+use Rattle.scheduler.specs.declared.Start.{Start}
+use Rattle.scheduler.specs.declared.Decision.{Decision}
+use Rattle.scheduler.specs.declared.Advance.{Advance}
+use Rattle.scheduler.specs.declared.Advanced.{Advanced}
+
+-- OPEN. A refused opening gives a fresh scheduler with every setting at its least.
+abbrev pub opening : (refusal : ℕ) → Settings → Opened
+opening n settings =
+    pick (eqb n 0) (record { answer = Opening.Ready; scheduler = freshOf settings })
+    (record { answer = Opening.Refused n; scheduler = freshOf leastSettings })
+
+abbrev pub openOf : Settings → Opened
+openOf settings = opening (numberOf (firstOf (settingsTests settings))) settings
+
+abbrev pub byMarking : {A : Type 0} → Marking → A → A → A
+byMarking Unmarked a b = a
+byMarking Marked a b = b
+
+abbrev pub timeOf : Scheduler → Packet → Ticks
+timeOf s p = record { 0 = transmissionTime (s .settings) (p .length .0) }
+
+-- The packet at the head, if one waits.
+abbrev pub headOf : Scheduler → Room → Packet
+headOf s r = packetAt r (goneOf (s .tallies))
+
+-- ARRIVE. The extra delay of a new unmarked packet.
+abbrev pub newDelay : Scheduler → (at : Instant) → Ticks
+newDelay s at = ownOf (s .line) (s .extra) (waitingOf Unmarked (s .tallies)) at
+
+abbrev pub admitUnmarked : Scheduler → Packet → Arrived
+admitUnmarked s p =
+    record {
+      answer = Admission.Unmarked (admissionsOf (s .tallies) + 1) (newDelay s (p .arrival));
+      scheduler = admittedUnmarked s (timeOf s p) (newDelay s (p .arrival)) (p .arrival);
+    }
+
+abbrev pub admitMarked : Scheduler → Packet → Arrived
+admitMarked s p =
+    record { answer = Admission.Marked (admissionsOf (s .tallies) + 1); scheduler = admittedMarked s (p .arrival) }
+
+unfoldable pub admitOf : Scheduler → Packet → Arrived
+admitOf s p = byMarking (p .marking) (admitUnmarked s p) (admitMarked s p)
+
+-- The room with the packet in it; an unmarked one is in the difference queue too.
+abbrev pub enteredRoom : Scheduler → Room → Packet → Room
+enteredRoom s r p =
+    withDifference (withPacket r (admissionsOf (s .tallies)) p) (s .tallies .admitted .unmarked) (admissionsOf (s .tallies) + 1)
+    (s .extra .last .0 - newDelay s (p .arrival) .0)
+
+unfoldable pub admitRoom : Scheduler → Room → Packet → Room
+admitRoom s r p = byMarking (p .marking) (enteredRoom s r p) (withPacket r (admissionsOf (s .tallies)) p)
+
+abbrev pub arrivalRefusal : Scheduler → Room → Marking → Bytes → (at : Instant) → ℕ
+arrivalRefusal s r μ len at = numberOf (firstOf (arrivalTests s (headOf s r .arrival) μ len at))
+
+abbrev pub packetOf : Marking → Bytes → (place : ℕ) → (at : Instant) → Packet
+packetOf μ len place at = record { marking = μ; length = len; place = place; arrival = at }
+
+abbrev pub arriving : (refusal : ℕ) → Scheduler → Packet → Arrived
+arriving n s p = pick (eqb n 0) (admitOf s p) (record { answer = Admission.Refused n; scheduler = s })
+
+unfoldable pub arriveOf : Scheduler → Room → Marking → Bytes → (place : ℕ) → (at : Instant) → Arrived
+arriveOf s r μ len place at = arriving (arrivalRefusal s r μ len at) s (packetOf μ len place at)
+
+abbrev pub arrivingRoom : (refusal : ℕ) → Scheduler → Room → Packet → Room
+arrivingRoom n s r p = pick (eqb n 0) (admitRoom s r p) r
+
+unfoldable pub arriveRoom : Scheduler → Room → Marking → Bytes → (place : ℕ) → (at : Instant) → Room
+arriveRoom s r μ len place at = arrivingRoom (arrivalRefusal s r μ len at) s r (packetOf μ len place at)
+
+-- ADVANCE. A marked packet at the head starts if it fits.
+abbrev pub sentOf : Scheduler → (head : Packet) → Bool
+sentOf s head = byMarking (head .marking) false (fitsOf (s .settings) (s .extra) (waitingOf Unmarked (s .tallies)) (timeOf s head))
+
+unfoldable pub startHead : Scheduler → (head : Packet) → (due at : Instant) → Advanced
+startHead s head due at =
+    record {
+      answer =
+          Advance.Decided
+          (Decision.Started
+          (record { number = goneOf (s .tallies) + 1; at = due; extra = record { 0 = 0 }; dropped = 0; packet = head }));
+      scheduler = startedMarked s due (timeOf s head) at;
+    }
+
+-- The number of the first waiting unmarked packet, that packet, and how many stand ahead of it.
+abbrev pub firstNumber : Scheduler → Room → ℕ
+firstNumber s r = numberAt r (s .tallies .started .unmarked)
+
+abbrev pub firstPacket : Scheduler → Room → Packet
+firstPacket s r = packetAt r (firstNumber s r - 1)
+
+abbrev pub aheadCount : Scheduler → Room → ℕ
+aheadCount s r = firstNumber s r - 1 - goneOf (s .tallies)
+
+-- How much less the extra delay of the next one is.
+abbrev pub nextLess : Scheduler → Room → Ticks
+nextLess s r = record { 0 = differenceAt r (s .tallies .started .unmarked + 1) }
+
+unfoldable pub startFirst : Scheduler → Room → (due at : Instant) → Advanced
+startFirst s r due at =
+    record {
+      answer =
+          Advance.Decided
+          (Decision.Started
+          (record { number = firstNumber s r; at = due; extra = s .extra .first; dropped = aheadCount s r; packet = firstPacket s r }));
+      scheduler = startedUnmarked s due (timeOf s (firstPacket s r)) (nextLess s r) (aheadCount s r) at;
+    }
+
+unfoldable pub decideOf : Scheduler → Room → (head : Packet) → (due at : Instant) → Advanced
+decideOf s r head due at = pick (sentOf s head) (startHead s head due at) (startFirst s r due at)
+
+abbrev pub nothingAt : Scheduler → (at : Instant) → Advanced
+nothingAt s at = record { answer = Advance.Decided Decision.NothingDue; scheduler = idleAt s at }
+
+abbrev pub atDue : Scheduler → Room → (due at : Instant) → Advanced
+atDue s r due at = pick (ltb (at .0) (due .0)) (nothingAt s at) (decideOf s r (headOf s r) due at)
+
+abbrev pub waiting : (waits : Bool) → Scheduler → Room → (at : Instant) → Advanced
+waiting b s r at = pick b (atDue s r (dueOf (s .line) (headOf s r .arrival)) at) (nothingAt s at)
+
+abbrev pub advancing : (refusal : ℕ) → Scheduler → Room → (at : Instant) → Advanced
+advancing n s r at =
+    pick (eqb n 0) (waiting (waitsOf (s .tallies)) s r at) (record { answer = Advance.Refused n; scheduler = s })
+
+unfoldable pub advanceOf : Scheduler → Room → (at : Instant) → Advanced
+advanceOf s r at = advancing (numberOf (firstOf (advanceTests (s .clock) at))) s r at

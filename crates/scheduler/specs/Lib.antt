@@ -1,0 +1,6 @@
+pub mod Calls
+pub mod Bounds
+pub mod Values
+pub mod Machine
+pub mod Represents
+pub mod Agreement

@@ -1,0 +1,29 @@
+-- What the five tallies tell: how many were admitted, how many are gone, how many of each marking wait. Assumes nothing.
+use mathlib.Core.Bool.{Bool, true, false, not}
+use Prim.Native.Nat.{ℕ, _+_, _-_, _≤_}
+use lib.Dec.{eqb}
+use Rattle.units.specs.declared.Marking.{Marking}
+use Rattle.units.specs.declared.Marking.the-variants.{Unmarked, Marked}
+use Rattle.units.specs.Limits.{admissionsMost}
+use Rattle.state.specs.declared.Tallies.{Tallies}
+
+abbrev pub admissionsOf : Tallies → ℕ
+admissionsOf t = t .admitted .unmarked + t .admitted .marked
+
+-- Started or dropped.
+abbrev pub goneOf : Tallies → ℕ
+goneOf t = t .started .unmarked + t .started .marked + t .dropped
+
+abbrev pub waitingOf : Marking → Tallies → ℕ
+waitingOf Unmarked t = t .admitted .unmarked - t .started .unmarked
+waitingOf Marked t = t .admitted .marked - (t .started .marked + t .dropped)
+
+-- A packet waits.
+abbrev pub waitsOf : Tallies → Bool
+waitsOf t = not (eqb (goneOf t) (admissionsOf t))
+
+-- No packet starts or is dropped that was not admitted, and the numbers suffice.
+pub record Counted (t : Tallies) : Type 0 where
+  pub unmarked : t .started .unmarked ≤ t .admitted .unmarked
+  pub marked : t .started .marked + t .dropped ≤ t .admitted .marked
+  pub all : t .admitted .unmarked + t .admitted .marked ≤ admissionsMost
