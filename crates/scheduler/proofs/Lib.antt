@@ -10,3 +10,4 @@ pub mod Heads
 pub mod Arrives
 pub mod Advances
 pub mod Follows
+pub mod Premise

@@ -2,10 +2,12 @@
 ghost use mathlib.Core.Path.{_≡_};
 ghost use Prim.Native.Nat.{_+_, _-_, _≤_};
 ghost use lib.ListN.{set};
-ghost use Rattle.room.specs.Room.{columns, turnOf};
+ghost use Rattle.room.specs.Room.{Room, columns, turnOf};
+ghost use Rattle.room.specs.Held.{Sized};
 ghost use Rattle.state.specs.Counts.{admissionsOf};
 ghost use Rattle.state.specs.Bounds.{timesMost, Small};
-ghost use Rattle.scheduler.specs.Calls.{openOf, timeOf, newDelay, admitUnmarked, admitMarked, admitOf, admitRoom, sentOf, startHead, startFirst, decideOf};
+ghost use Rattle.scheduler.specs.Calls.{openOf, timeOf, newDelay, admitUnmarked, admitMarked, admitOf, admitRoom, arriveOf, arriveRoom, sentOf, startHead, startFirst, decideOf, advanceOf};
+ghost use Rattle.scheduler.specs.Machine.{FromOpening};
 ghost use Rattle.scheduler.specs.Bounds.{Admits, HeadStarts, FirstStarts, Decides};
 use room::Packet;
 use state::Scheduler;
@@ -50,13 +52,13 @@ pub enum Decision {
     NothingDue,
 }
 
-pub enum Advance {
+pub enum Outcome {
     Decided(Decision),
     Refused(u8),
 }
 
 pub struct Advanced {
-    pub answer: Advance,
+    pub answer: Outcome,
     pub scheduler: Scheduler,
 }
 
@@ -177,7 +179,7 @@ fn start_head(scheduler: Scheduler, head: Packet, due: Instant, at: Instant) -> 
         packet: head,
     };
     Advanced {
-        answer: Advance::Decided(Decision::Started(start)),
+        answer: Outcome::Decided(Decision::Started(start)),
         scheduler: state::start_marked(scheduler, due, time, at),
     }
 }
@@ -212,7 +214,7 @@ fn start_first(
         packet,
     };
     Advanced {
-        answer: Advance::Decided(Decision::Started(start)),
+        answer: Outcome::Decided(Decision::Started(start)),
         scheduler: state::start_unmarked(scheduler, due, time, less, dropped, at),
     }
 }
