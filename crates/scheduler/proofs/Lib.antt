@@ -11,3 +11,4 @@ pub mod Arrives
 pub mod Advances
 pub mod Follows
 pub mod Premise
+pub mod Public

@@ -64,7 +64,8 @@ pub struct Advanced {
 
 // A scheduler for these settings; where they are refused, one with every setting at its least.
 pub fn open(settings: Settings) -> Opened
-    ensures { λ r. ⌜ r ≡ openOf settings ⌝ }
+    ensures value { λ r. ⌜ r ≡ openOf settings ⌝ }
+    ensures kept { λ r. ⌜ ((lent : Room) → Sized lent → FromOpening (r .scheduler) lent) ⌝ }
 {
     let refusal = units::settings_refusal(settings);
     if refusal == 0 {
@@ -146,6 +147,52 @@ fn admit(
         Marking::Unmarked => admit_unmarked(scheduler, packet, numbers, differences),
         Marking::Marked => admit_marked(scheduler, packet),
     }
+}
+
+// A packet arrives: it is put into the room, or refused.
+pub fn arrive(
+    scheduler: Scheduler,
+    marking: Marking,
+    length: Bytes,
+    place: u32,
+    at: Instant,
+    markings: &mut [u8; 128],
+    lengths: &mut [u32; 128],
+    places: &mut [u32; 128],
+    arrivals: &mut [u64; 128],
+    numbers: &mut [u32; 64],
+    differences: &mut [u64; 64],
+) -> Arrived
+    requires { ⌜ FromOpening scheduler (columns (now markings) (now lengths) (now places) (now arrivals) (now numbers) (now differences)) ⌝ }
+    ensures value { λ r. ⌜ r ≡ arriveOf scheduler (columns (now (markings .entry)) (now (lengths .entry)) (now (places .entry)) (now (arrivals .entry)) (now (numbers .entry)) (now (differences .entry))) marking length place at ⌝ }
+    ensures room { λ r. ⌜ columns (now (markings .exit)) (now (lengths .exit)) (now (places .exit)) (now (arrivals .exit)) (now (numbers .exit)) (now (differences .exit)) ≡ arriveRoom scheduler (columns (now (markings .entry)) (now (lengths .entry)) (now (places .entry)) (now (arrivals .entry)) (now (numbers .entry)) (now (differences .entry))) marking length place at ⌝ }
+    ensures kept { λ r. ⌜ FromOpening (r .scheduler) (columns (now (markings .exit)) (now (lengths .exit)) (now (places .exit)) (now (arrivals .exit)) (now (numbers .exit)) (now (differences .exit))) ⌝ }
+{
+    let rank = state::gone(scheduler.tallies);
+    let head = room::packet_at(rank, markings, lengths, places, arrivals);
+    let refusal = state::arrival_refusal(scheduler, head.arrival, marking, length, at);
+    if refusal != 0 {
+        return Arrived {
+            answer: Admission::Refused(refusal),
+            scheduler,
+        };
+    }
+    let packet = Packet {
+        marking,
+        length,
+        place,
+        arrival: at,
+    };
+    admit(
+        scheduler,
+        packet,
+        markings,
+        lengths,
+        places,
+        arrivals,
+        numbers,
+        differences,
+    )
 }
 
 // Whether the packet at the head is marked and fits.
@@ -240,6 +287,57 @@ fn decide(
     }
     start_first(
         scheduler,
+        due,
+        at,
+        markings,
+        lengths,
+        places,
+        arrivals,
+        numbers,
+        differences,
+    )
+}
+
+// The clock moves on to `at`, and one decision is taken if one is due by then.
+pub fn advance(
+    scheduler: Scheduler,
+    at: Instant,
+    markings: &[u8; 128],
+    lengths: &[u32; 128],
+    places: &[u32; 128],
+    arrivals: &[u64; 128],
+    numbers: &[u32; 64],
+    differences: &[u64; 64],
+) -> Advanced
+    requires { ⌜ FromOpening scheduler (columns (now markings) (now lengths) (now places) (now arrivals) (now numbers) (now differences)) ⌝ }
+    ensures value { λ r. ⌜ r ≡ advanceOf scheduler (columns (now (markings .entry)) (now (lengths .entry)) (now (places .entry)) (now (arrivals .entry)) (now (numbers .entry)) (now (differences .entry))) at ⌝ }
+    ensures kept { λ r. ⌜ FromOpening (r .scheduler) (columns (now (markings .entry)) (now (lengths .entry)) (now (places .entry)) (now (arrivals .entry)) (now (numbers .entry)) (now (differences .entry))) ⌝ }
+{
+    let refusal = state::advance_refusal(scheduler.clock, at);
+    if refusal != 0 {
+        return Advanced {
+            answer: Outcome::Refused(refusal),
+            scheduler,
+        };
+    }
+    if !state::waits(scheduler.tallies) {
+        return Advanced {
+            answer: Outcome::Decided(Decision::NothingDue),
+            scheduler: state::idle(scheduler, at),
+        };
+    }
+    let rank = state::gone(scheduler.tallies);
+    let head = room::packet_at(rank, markings, lengths, places, arrivals);
+    let due = state::due(scheduler.line, head.arrival);
+    if at.0 < due.0 {
+        return Advanced {
+            answer: Outcome::Decided(Decision::NothingDue),
+            scheduler: state::idle(scheduler, at),
+        };
+    }
+    decide(
+        scheduler,
+        head,
         due,
         at,
         markings,
