@@ -12,3 +12,4 @@ pub mod Advances
 pub mod Follows
 pub mod Premise
 pub mod Public
+pub mod Unique

@@ -31,6 +31,7 @@ use Rattle.scheduler.specs.declared.Opened.{Opened}
 use Rattle.scheduler.specs.Calls.{openOf, headOf, packetOf, admitOf, admitRoom, arrivalRefusal, arriveOf, arriveRoom, decideOf, advanceOf}
 use Rattle.scheduler.specs.Bounds.{Admits, Decides}
 use Rattle.scheduler.specs.Machine.{Made, made, schedulerAfter, roomAfter, FromOpening}
+use Rattle.scheduler.specs.Promises.{Opens, Arrives, Advances}
 use Rattle.scheduler.proofs.Premise.{stands, small, admits, decides}
 
 -- A call more.
@@ -47,13 +48,14 @@ room-more s r [] c = refl
 room-more s r (d ∷ cs) c = room-more (made s r d .scheduler) (made s r d .room) cs c
 
 -- OPEN gives the premise, and each call keeps it.
-pub opened : (settings : Settings) (x : Opened) → x ≡ openOf settings
-    → (x ≡ openOf settings) × ((lent : Room) → Sized lent → FromOpening (x .scheduler) lent)
+pub opened : (settings : Settings) (x : Opened) → x ≡ openOf settings → Opens settings x
 unfolding schedulerAfter roomAfter
-opened settings x e = (
-  e,
-  λ lent z. record { settings = settings; lent = lent; calls = []; sized = z; scheduler = ap (λ (x : Opened). x .scheduler) e; room = refl },
-)
+opened settings x e =
+    record {
+      value = e;
+      kept =
+          λ lent z. record { settings = settings; lent = lent; calls = []; sized = z; scheduler = ap (λ (x : Opened). x .scheduler) e; room = refl };
+    }
 
 pub kept : (s : Scheduler) (r : Room) (c : Call) → FromOpening s r → FromOpening (made s r c .scheduler) (made s r c .room)
 kept s r c h =
@@ -88,18 +90,16 @@ module _ (s : Scheduler) (r : Room) (μ : Marking) (len : Bytes) (place : ℕ) (
   unfolding arriveRoom
   admitted-room z = rw (eq-eqb _ 0 z)
 
-  pub arrive-refuses : (n ≡ 0 → ⊥)
-      → (_≡_ {A = Arrived} (record { answer = Admission.Refused n; scheduler = s }) (arriveOf s r μ len place at))
-      × ((r ≡ arriveRoom s r μ len place at) × FromOpening s r)
+  pub arrive-refuses : (n ≡ 0 → ⊥) → Arrives s r μ len place at (record { answer = Admission.Refused n; scheduler = s }) r
   unfolding arriveOf arriveRoom
-  arrive-refuses z = (rw (← number-is, ne-eqb n 0 z), (rw (← number-is, ne-eqb n 0 z), h))
+  arrive-refuses z = record { value = rw (← number-is, ne-eqb n 0 z); room = rw (← number-is, ne-eqb n 0 z); kept = h }
 
-  pub arrive-admits : (x : Arrived) (r′ : Room) → n ≡ 0 → x ≡ admitOf s (packetOf μ len place at) → r′ ≡ admitRoom s r (packetOf μ len place at)
-      → (x ≡ arriveOf s r μ len place at) × ((r′ ≡ arriveRoom s r μ len place at) × FromOpening (x .scheduler) r′)
-  arrive-admits x r′ z e f =
+  pub arrive-admits : (x : Arrived) (left : Room) → n ≡ 0 → x ≡ admitOf s (packetOf μ len place at)
+      → left ≡ admitRoom s r (packetOf μ len place at) → Arrives s r μ len place at x left
+  arrive-admits x left z e f =
       let value : x ≡ arriveOf s r μ len place at = e ∙ sym (admitted-answer (sym number-is ∙ z)) in
-      let room : r′ ≡ arriveRoom s r μ len place at = f ∙ sym (admitted-room (sym number-is ∙ z)) in
-      (value, (room, rw (value, room) (kept s r (arrive μ (len .0) place (at .0)) h)))
+      let room : left ≡ arriveRoom s r μ len place at = f ∙ sym (admitted-room (sym number-is ∙ z)) in
+      record { value = value; room = room; kept = rw (value, room) (kept s r (arrive μ (len .0) place (at .0)) h) }
 
   pub arrive-may : n ≡ 0 → Admits s (packetOf μ len place at)
   arrive-may z = admits s r (stands s r h) μ len place at (sym number-is ∙ z)
@@ -134,19 +134,15 @@ pub record Read (s : Scheduler) (r : Room) (head : Packet) (due : Instant) : Typ
   pub date : due ≡ dueOf (s .line) (head .arrival)
 
 module _ (s : Scheduler) (r : Room) (at : Instant) (h : FromOpening s r) (n : ℕ) (e : n ≡ numberOf (firstOf (advanceTests (s .clock) at))) where
-  -- The result, and the premise with it.
-  abbrev Gives : Advanced → Type 0
-  Gives x = (x ≡ advanceOf s r at) × FromOpening (x .scheduler) r
+  gives : (x : Advanced) → advanceOf s r at ≡ x → Advances s r at x
+  gives x f = record { value = sym f; kept = rw (sym f) (kept s r (advance (at .0)) h) }
 
-  gives : (x : Advanced) → advanceOf s r at ≡ x → Gives x
-  gives x f = (sym f, rw (sym f) (kept s r (advance (at .0)) h))
-
-  pub advance-refuses : (n ≡ 0 → ⊥) → Gives (record { answer = Outcome.Refused n; scheduler = s })
+  pub advance-refuses : (n ≡ 0 → ⊥) → Advances s r at (record { answer = Outcome.Refused n; scheduler = s })
   unfolding advanceOf
   advance-refuses z = gives (record { answer = Outcome.Refused n; scheduler = s }) (rw (← e, ne-eqb n 0 z))
 
   pub advance-empty : n ≡ 0 → waitsOf (s .tallies) ≡ false → (x : Scheduler) → x ≡ idleAt s at
-      → Gives (record { answer = Outcome.Decided Decision.NothingDue; scheduler = x })
+      → Advances s r at (record { answer = Outcome.Decided Decision.NothingDue; scheduler = x })
   unfolding advanceOf
   advance-empty z w x f = gives (record { answer = Outcome.Decided Decision.NothingDue; scheduler = x }) (rw (eq-eqb _ 0 (sym e ∙ z), w, f))
 
@@ -157,13 +153,13 @@ module _ (s : Scheduler) (r : Room) (at : Instant) (h : FromOpening s r) (n : �
     due-is : due ≡ dueOf (s .line) (headOf s r .arrival)
     due-is = read .date ∙ ap (λ (p : Packet). dueOf (s .line) (p .arrival)) head-is
 
-    pub advance-early : at .0 < due .0 → (x : Scheduler) → x ≡ idleAt s at → Gives (record { answer = Outcome.Decided Decision.NothingDue; scheduler = x })
+    pub advance-early : at .0 < due .0 → (x : Scheduler) → x ≡ idleAt s at → Advances s r at (record { answer = Outcome.Decided Decision.NothingDue; scheduler = x })
     unfolding advanceOf
     advance-early k x f =
         let soon : at .0 < dueOf (s .line) (headOf s r .arrival) .0 = rw due-is at k in
         gives (record { answer = Outcome.Decided Decision.NothingDue; scheduler = x }) (rw (eq-eqb _ 0 (sym e ∙ z), w, lt-ltb _ _ soon, f))
 
-    pub advance-takes : due .0 ≤ at .0 → (x : Advanced) → x ≡ decideOf s r head due at → Gives x
+    pub advance-takes : due .0 ≤ at .0 → (x : Advanced) → x ≡ decideOf s r head due at → Advances s r at x
     unfolding advanceOf
     advance-takes k x f =
         let soon : dueOf (s .line) (headOf s r .arrival) .0 ≤ at .0 = rw due-is at k in

@@ -2,12 +2,12 @@
 ghost use mathlib.Core.Path.{_≡_};
 ghost use Prim.Native.Nat.{_+_, _-_, _≤_};
 ghost use lib.ListN.{set};
-ghost use Rattle.room.specs.Room.{Room, columns, turnOf};
-ghost use Rattle.room.specs.Held.{Sized};
+ghost use Rattle.room.specs.Room.{columns, turnOf};
 ghost use Rattle.state.specs.Counts.{admissionsOf};
 ghost use Rattle.state.specs.Bounds.{timesMost, Small};
-ghost use Rattle.scheduler.specs.Calls.{openOf, timeOf, newDelay, admitUnmarked, admitMarked, admitOf, admitRoom, arriveOf, arriveRoom, sentOf, startHead, startFirst, decideOf, advanceOf};
+ghost use Rattle.scheduler.specs.Calls.{timeOf, newDelay, admitUnmarked, admitMarked, admitOf, admitRoom, sentOf, startHead, startFirst, decideOf};
 ghost use Rattle.scheduler.specs.Machine.{FromOpening};
+ghost use Rattle.scheduler.specs.Promises.{Opens, Arrives, Advances};
 ghost use Rattle.scheduler.specs.Bounds.{Admits, HeadStarts, FirstStarts, Decides};
 use room::Packet;
 use state::Scheduler;
@@ -64,8 +64,7 @@ pub struct Advanced {
 
 // A scheduler for these settings; where they are refused, one with every setting at its least.
 pub fn open(settings: Settings) -> Opened
-    ensures value { λ r. ⌜ r ≡ openOf settings ⌝ }
-    ensures kept { λ r. ⌜ ((lent : Room) → Sized lent → FromOpening (r .scheduler) lent) ⌝ }
+    ensures { λ r. ⌜ Opens settings r ⌝ }
 {
     let refusal = units::settings_refusal(settings);
     if refusal == 0 {
@@ -164,9 +163,7 @@ pub fn arrive(
     differences: &mut [u64; 64],
 ) -> Arrived
     requires { ⌜ FromOpening scheduler (columns (now markings) (now lengths) (now places) (now arrivals) (now numbers) (now differences)) ⌝ }
-    ensures value { λ r. ⌜ r ≡ arriveOf scheduler (columns (now (markings .entry)) (now (lengths .entry)) (now (places .entry)) (now (arrivals .entry)) (now (numbers .entry)) (now (differences .entry))) marking length place at ⌝ }
-    ensures room { λ r. ⌜ columns (now (markings .exit)) (now (lengths .exit)) (now (places .exit)) (now (arrivals .exit)) (now (numbers .exit)) (now (differences .exit)) ≡ arriveRoom scheduler (columns (now (markings .entry)) (now (lengths .entry)) (now (places .entry)) (now (arrivals .entry)) (now (numbers .entry)) (now (differences .entry))) marking length place at ⌝ }
-    ensures kept { λ r. ⌜ FromOpening (r .scheduler) (columns (now (markings .exit)) (now (lengths .exit)) (now (places .exit)) (now (arrivals .exit)) (now (numbers .exit)) (now (differences .exit))) ⌝ }
+    ensures { λ r. ⌜ Arrives scheduler (columns (now (markings .entry)) (now (lengths .entry)) (now (places .entry)) (now (arrivals .entry)) (now (numbers .entry)) (now (differences .entry))) marking length place at r (columns (now (markings .exit)) (now (lengths .exit)) (now (places .exit)) (now (arrivals .exit)) (now (numbers .exit)) (now (differences .exit))) ⌝ }
 {
     let rank = state::gone(scheduler.tallies);
     let head = room::packet_at(rank, markings, lengths, places, arrivals);
@@ -310,13 +307,12 @@ pub fn advance(
     differences: &[u64; 64],
 ) -> Advanced
     requires { ⌜ FromOpening scheduler (columns (now markings) (now lengths) (now places) (now arrivals) (now numbers) (now differences)) ⌝ }
-    ensures value { λ r. ⌜ r ≡ advanceOf scheduler (columns (now (markings .entry)) (now (lengths .entry)) (now (places .entry)) (now (arrivals .entry)) (now (numbers .entry)) (now (differences .entry))) at ⌝ }
-    ensures kept { λ r. ⌜ FromOpening (r .scheduler) (columns (now (markings .entry)) (now (lengths .entry)) (now (places .entry)) (now (arrivals .entry)) (now (numbers .entry)) (now (differences .entry))) ⌝ }
+    ensures { λ r. ⌜ Advances scheduler (columns (now (markings .entry)) (now (lengths .entry)) (now (places .entry)) (now (arrivals .entry)) (now (numbers .entry)) (now (differences .entry))) at r ⌝ }
 {
-    let refusal = state::advance_refusal(scheduler.clock, at);
-    if refusal != 0 {
+    let refused = state::advance_refusal(scheduler.clock, at);
+    if refused != 0 {
         return Advanced {
-            answer: Outcome::Refused(refusal),
+            answer: Outcome::Refused(refused),
             scheduler,
         };
     }
