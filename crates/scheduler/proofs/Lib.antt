@@ -10,3 +10,6 @@ pub mod Heads
 pub mod Arrives
 pub mod Advances
 pub mod Follows
+pub mod Premise
+pub mod Public
+pub mod Unique

@@ -73,16 +73,18 @@ pub arrival-tests-same : (s : Scheduler) (r : Room) (l : rules.Line) → Represe
     → arrivalTests s (headOf s r .arrival) μ (bytes len) (instant t) ≡ steps.arrivalTests (termsOf (s .settings)) l μ len t
 arrival-tests-same s r l rep fit Unmarked len t =
     rw (
-    overdue-same (termsOf (s .settings)) s r l rep fit t,
-    unmarked-waiting (termsOf (s .settings)) s r l rep fit,
-    all-admitted (termsOf (s .settings)) s r l rep fit,
-    rep .clock)
+      overdue-same (termsOf (s .settings)) s r l rep fit t,
+      unmarked-waiting (termsOf (s .settings)) s r l rep fit,
+      all-admitted (termsOf (s .settings)) s r l rep fit,
+      rep .clock,
+    )
 arrival-tests-same s r l rep fit Marked len t =
     rw (
-    overdue-same (termsOf (s .settings)) s r l rep fit t,
-    marked-waiting (termsOf (s .settings)) s r l rep fit,
-    all-admitted (termsOf (s .settings)) s r l rep fit,
-    rep .clock)
+      overdue-same (termsOf (s .settings)) s r l rep fit t,
+      marked-waiting (termsOf (s .settings)) s r l rep fit,
+      all-admitted (termsOf (s .settings)) s r l rep fit,
+      rep .clock,
+    )
 
 pub advance-tests-same : (s : Scheduler) (r : Room) (l : rules.Line) → Represents (termsOf (s .settings)) s r l → (t : ℕ)
     → advanceTests (s .clock) (instant t) ≡ steps.advanceTests (termsOf (s .settings)) l t

@@ -24,7 +24,7 @@ use Rattle.scheduler.specs.declared.Admission.{Admission}
 use Rattle.scheduler.specs.declared.Arrived.{Arrived}
 use Rattle.scheduler.specs.declared.Start.{Start}
 use Rattle.scheduler.specs.declared.Decision.{Decision}
-use Rattle.scheduler.specs.declared.Advance.{Advance}
+use Rattle.scheduler.specs.declared.Outcome.{Outcome}
 use Rattle.scheduler.specs.declared.Advanced.{Advanced}
 
 -- OPEN. A refused opening gives a fresh scheduler with every setting at its least.
@@ -100,7 +100,7 @@ unfoldable pub startHead : Scheduler → (head : Packet) → (due at : Instant) 
 startHead s head due at =
     record {
       answer =
-          Advance.Decided
+          Outcome.Decided
           (Decision.Started
           (record { number = goneOf (s .tallies) + 1; at = due; extra = record { 0 = 0 }; dropped = 0; packet = head }));
       scheduler = startedMarked s due (timeOf s head) at;
@@ -124,7 +124,7 @@ unfoldable pub startFirst : Scheduler → Room → (due at : Instant) → Advanc
 startFirst s r due at =
     record {
       answer =
-          Advance.Decided
+          Outcome.Decided
           (Decision.Started
           (record { number = firstNumber s r; at = due; extra = s .extra .first; dropped = aheadCount s r; packet = firstPacket s r }));
       scheduler = startedUnmarked s due (timeOf s (firstPacket s r)) (nextLess s r) (aheadCount s r) at;
@@ -134,7 +134,7 @@ unfoldable pub decideOf : Scheduler → Room → (head : Packet) → (due at : I
 decideOf s r head due at = pick (sentOf s head) (startHead s head due at) (startFirst s r due at)
 
 abbrev pub nothingAt : Scheduler → (at : Instant) → Advanced
-nothingAt s at = record { answer = Advance.Decided Decision.NothingDue; scheduler = idleAt s at }
+nothingAt s at = record { answer = Outcome.Decided Decision.NothingDue; scheduler = idleAt s at }
 
 abbrev pub atDue : Scheduler → Room → (due at : Instant) → Advanced
 atDue s r due at = pick (ltb (at .0) (due .0)) (nothingAt s at) (decideOf s r (headOf s r) due at)
@@ -144,7 +144,7 @@ waiting b s r at = pick b (atDue s r (dueOf (s .line) (headOf s r .arrival)) at)
 
 abbrev pub advancing : (refusal : ℕ) → Scheduler → Room → (at : Instant) → Advanced
 advancing n s r at =
-    pick (eqb n 0) (waiting (waitsOf (s .tallies)) s r at) (record { answer = Advance.Refused n; scheduler = s })
+    pick (eqb n 0) (waiting (waitsOf (s .tallies)) s r at) (record { answer = Outcome.Refused n; scheduler = s })
 
 unfoldable pub advanceOf : Scheduler → Room → (at : Instant) → Advanced
 advanceOf s r at = advancing (numberOf (firstOf (advanceTests (s .clock) at))) s r at

@@ -8,7 +8,7 @@ use Rattle.scheduler.specs.declared.Opening.{Opening}
 use Rattle.scheduler.specs.declared.Admission.{Admission}
 use Rattle.scheduler.specs.declared.Start.{Start}
 use Rattle.scheduler.specs.declared.Decision.{Decision}
-use Rattle.scheduler.specs.declared.Advance.{Advance}
+use Rattle.scheduler.specs.declared.Outcome.{Outcome}
 
 -- The number of an opening: 0 if it is not refused.
 abbrev pub openingNumber : Opening → ℕ
@@ -27,9 +27,9 @@ decisionValues (Decision.Started x) = 83 ∷ x .number ∷ x .at .0 ∷ x .extra
 decisionValues Decision.NothingDue = 78 ∷ []
 
 -- R c.
-abbrev pub advanceValues : Advance → List ℕ
-advanceValues (Advance.Decided d) = decisionValues d
-advanceValues (Advance.Refused c) = 82 ∷ c ∷ []
+abbrev pub advanceValues : Outcome → List ℕ
+advanceValues (Outcome.Decided d) = decisionValues d
+advanceValues (Outcome.Refused c) = 82 ∷ c ∷ []
 
 -- T and the five tallies.
 abbrev pub tallyValues : Tallies → List ℕ
@@ -41,6 +41,6 @@ abbrev pub handedBy : Decision → Option Packet
 handedBy (Decision.Started x) = some (x .packet)
 handedBy Decision.NothingDue = none
 
-abbrev pub handed : Advance → Option Packet
-handed (Advance.Decided d) = handedBy d
-handed (Advance.Refused c) = none
+abbrev pub handed : Outcome → Option Packet
+handed (Outcome.Decided d) = handedBy d
+handed (Outcome.Refused c) = none

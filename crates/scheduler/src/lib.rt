@@ -5,7 +5,9 @@ ghost use lib.ListN.{set};
 ghost use Rattle.room.specs.Room.{columns, turnOf};
 ghost use Rattle.state.specs.Counts.{admissionsOf};
 ghost use Rattle.state.specs.Bounds.{timesMost, Small};
-ghost use Rattle.scheduler.specs.Calls.{openOf, timeOf, newDelay, admitUnmarked, admitMarked, admitOf, admitRoom, sentOf, startHead, startFirst, decideOf};
+ghost use Rattle.scheduler.specs.Calls.{timeOf, newDelay, admitUnmarked, admitMarked, admitOf, admitRoom, sentOf, startHead, startFirst, decideOf};
+ghost use Rattle.scheduler.specs.Machine.{FromOpening};
+ghost use Rattle.scheduler.specs.Promises.{Opens, Arrives, Advances};
 ghost use Rattle.scheduler.specs.Bounds.{Admits, HeadStarts, FirstStarts, Decides};
 use room::Packet;
 use state::Scheduler;
@@ -50,19 +52,19 @@ pub enum Decision {
     NothingDue,
 }
 
-pub enum Advance {
+pub enum Outcome {
     Decided(Decision),
     Refused(u8),
 }
 
 pub struct Advanced {
-    pub answer: Advance,
+    pub answer: Outcome,
     pub scheduler: Scheduler,
 }
 
 // A scheduler for these settings; where they are refused, one with every setting at its least.
 pub fn open(settings: Settings) -> Opened
-    ensures { λ r. ⌜ r ≡ openOf settings ⌝ }
+    ensures { λ r. ⌜ Opens settings r ⌝ }
 {
     let refusal = units::settings_refusal(settings);
     if refusal == 0 {
@@ -146,6 +148,50 @@ fn admit(
     }
 }
 
+// A packet arrives: it is put into the room, or refused.
+pub fn arrive(
+    scheduler: Scheduler,
+    marking: Marking,
+    length: Bytes,
+    place: u32,
+    at: Instant,
+    markings: &mut [u8; 128],
+    lengths: &mut [u32; 128],
+    places: &mut [u32; 128],
+    arrivals: &mut [u64; 128],
+    numbers: &mut [u32; 64],
+    differences: &mut [u64; 64],
+) -> Arrived
+    requires { ⌜ FromOpening scheduler (columns (now markings) (now lengths) (now places) (now arrivals) (now numbers) (now differences)) ⌝ }
+    ensures { λ r. ⌜ Arrives scheduler (columns (now (markings .entry)) (now (lengths .entry)) (now (places .entry)) (now (arrivals .entry)) (now (numbers .entry)) (now (differences .entry))) marking length place at r (columns (now (markings .exit)) (now (lengths .exit)) (now (places .exit)) (now (arrivals .exit)) (now (numbers .exit)) (now (differences .exit))) ⌝ }
+{
+    let rank = state::gone(scheduler.tallies);
+    let head = room::packet_at(rank, markings, lengths, places, arrivals);
+    let refusal = state::arrival_refusal(scheduler, head.arrival, marking, length, at);
+    if refusal != 0 {
+        return Arrived {
+            answer: Admission::Refused(refusal),
+            scheduler,
+        };
+    }
+    let packet = Packet {
+        marking,
+        length,
+        place,
+        arrival: at,
+    };
+    admit(
+        scheduler,
+        packet,
+        markings,
+        lengths,
+        places,
+        arrivals,
+        numbers,
+        differences,
+    )
+}
+
 // Whether the packet at the head is marked and fits.
 fn sent(scheduler: Scheduler, head: Packet) -> bool
     requires { ⌜ Small scheduler × (timeOf scheduler head .0 ≤ timesMost) ⌝ }
@@ -177,7 +223,7 @@ fn start_head(scheduler: Scheduler, head: Packet, due: Instant, at: Instant) -> 
         packet: head,
     };
     Advanced {
-        answer: Advance::Decided(Decision::Started(start)),
+        answer: Outcome::Decided(Decision::Started(start)),
         scheduler: state::start_marked(scheduler, due, time, at),
     }
 }
@@ -212,7 +258,7 @@ fn start_first(
         packet,
     };
     Advanced {
-        answer: Advance::Decided(Decision::Started(start)),
+        answer: Outcome::Decided(Decision::Started(start)),
         scheduler: state::start_unmarked(scheduler, due, time, less, dropped, at),
     }
 }
@@ -238,6 +284,56 @@ fn decide(
     }
     start_first(
         scheduler,
+        due,
+        at,
+        markings,
+        lengths,
+        places,
+        arrivals,
+        numbers,
+        differences,
+    )
+}
+
+// The clock moves on to `at`, and one decision is taken if one is due by then.
+pub fn advance(
+    scheduler: Scheduler,
+    at: Instant,
+    markings: &[u8; 128],
+    lengths: &[u32; 128],
+    places: &[u32; 128],
+    arrivals: &[u64; 128],
+    numbers: &[u32; 64],
+    differences: &[u64; 64],
+) -> Advanced
+    requires { ⌜ FromOpening scheduler (columns (now markings) (now lengths) (now places) (now arrivals) (now numbers) (now differences)) ⌝ }
+    ensures { λ r. ⌜ Advances scheduler (columns (now (markings .entry)) (now (lengths .entry)) (now (places .entry)) (now (arrivals .entry)) (now (numbers .entry)) (now (differences .entry))) at r ⌝ }
+{
+    let refused = state::advance_refusal(scheduler.clock, at);
+    if refused != 0 {
+        return Advanced {
+            answer: Outcome::Refused(refused),
+            scheduler,
+        };
+    }
+    if !state::waits(scheduler.tallies) {
+        return Advanced {
+            answer: Outcome::Decided(Decision::NothingDue),
+            scheduler: state::idle(scheduler, at),
+        };
+    }
+    let rank = state::gone(scheduler.tallies);
+    let head = room::packet_at(rank, markings, lengths, places, arrivals);
+    let due = state::due(scheduler.line, head.arrival);
+    if at.0 < due.0 {
+        return Advanced {
+            answer: Outcome::Decided(Decision::NothingDue),
+            scheduler: state::idle(scheduler, at),
+        };
+    }
+    decide(
+        scheduler,
+        head,
         due,
         at,
         markings,
