@@ -6,7 +6,6 @@ use native.Mathlib.Numerals.{add-one}
 use native.Mathlib.Omega.{arith}
 use lib.ListN.{length, take, drop, getD, length-append}
 use lib.Seq.{take-suc, take-add}
-use Rattle.text.specs.Decimal.{decimal}
 use Rattle.text.specs.Row.{fieldText, fieldsText, lineText}
 use Rattle.text.proofs.Digits.{decimal-most}
 

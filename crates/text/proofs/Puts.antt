@@ -1,11 +1,10 @@
 -- Texts put one after the other. Assumes nothing.
-use mathlib.Core.Path.{_≡_, refl}
-use mathlib.Core.List.{List, [], _∷_, _++_}
-use Prim.Native.Nat.{ℕ, _+_, _≤_}
+use mathlib.Core.Path.{refl}
+use mathlib.Core.List.{List, _++_}
+use Prim.Native.Nat.{ℕ}
 use native.Mathlib.Omega.{arith}
 use lib.ListN.{length, length-append}
-use lib.Seq.{sets, length-sets}
-use Rattle.lists.proofs.Stores.{Stored, stored, stored-more}
+use Rattle.lists.proofs.Stores.{stored, stored-more}
 use Rattle.text.specs.Put.{Put}
 
 pub put-then : {l m n : List ℕ} {at p q : ℕ} {xs ys : List ℕ} → Put l at xs m p → Put m p ys n q → Put l at (xs ++ ys) n q

@@ -6,9 +6,9 @@ use Prim.Native.Nat.{ℕ, zero, suc, _+_, _-_, _*_, _/_, _%_, _^_, _≤_, _<_}
 use native.Mathlib.Nat.{pow-suc}
 use native.Mathlib.Omega.{arith}
 use lib.Dec.{ltb}
-use borrow.Author.Tests.{ltb-true, ltb-false}
+use borrow.Author.Tests.{ltb-false}
 use Rattle.text.specs.Decimal.{digit, digitsIn, decimal}
-use Rattle.text.specs.Row.{fieldText, fieldsText, lineText}
+use Rattle.text.specs.Row.{fieldsText}
 use Rattle.text.specs.ReadBack.{Printable, LinesReadBack}
 
 choose : {A : Type 0} (P : A → Type 0) (b : Bool) {x y : A} → (b ≡ true → P x) → (b ≡ false → P y) → P (cond b x y)

@@ -1,6 +1,7 @@
 -- A line of text: a letter and its numbers, with one space before each number and one byte 10 at the end. Assumes nothing.
+use mathlib.Core.Path.{_≡_}
 use mathlib.Core.List.{List, [], _∷_, _++_}
-use Prim.Native.Nat.{ℕ}
+use Prim.Native.Nat.{ℕ, _≤_}
 use lib.ListN.{take}
 use Rattle.text.specs.declared.Row.{Row}
 use Rattle.text.specs.Decimal.{decimal}
@@ -22,3 +23,17 @@ numbersOf r = take (r .count) (r .values)
 
 abbrev pub rowText : Row → List ℕ
 rowText r = lineText (r .letter) (numbersOf r)
+
+-- A line's letter and numbers, in order.
+abbrev pub valuesOf : Row → List ℕ
+valuesOf r = r .letter ∷ numbersOf r
+
+-- The text of a line by its letter and numbers.
+abbrev pub valuesText : List ℕ → List ℕ
+valuesText [] = []
+valuesText (letter ∷ vs) = lineText letter vs
+
+-- A row that shows these values, with at most so many numbers.
+pub record Shows (most : ℕ) (values : List ℕ) (r : Row) : Type 0 where
+  pub is : valuesOf r ≡ values
+  pub few : r .count ≤ most

@@ -1,0 +1,47 @@
+-- A text that fits and one that does not. Assumes nothing.
+use mathlib.Core.Path.{_≡_, sym, ap, subst, _∙_}
+use mathlib.Core.List.{List}
+use Prim.Native.Nat.{ℕ, _*_, _/_, _≤_, _<_}
+use native.Mathlib.Nat.{zero-add}
+use native.Mathlib.Omega.{arith}
+use lib.IntN.{ℤ, pos, negsuc}
+use lib.ListN.{length}
+use borrow.Author.Tests.{le-leb, lt-leb}
+use Rattle.units.specs.declared.Settings.{Settings}
+use Rattle.images.specs.declared.Reading.{Reading}
+use Rattle.images.specs.declared.Reading.the-variants.{Accepted}
+use Rattle.images.specs.Image.{judged}
+use Rattle.images.proofs.Accepted.{whole, count-most}
+use Rattle.text.specs.Row.{valuesText}
+use Rattle.text.specs.Put.{Put}
+use Rattle.run.specs.Trace.{readText, textOf}
+use Rattle.run.specs.Ran.{Answers}
+
+pub answers-put : {text before after : List ℕ} {p : ℕ} {r : ℤ} → length text ≤ length before → Put before 0 text after p → r ≡ pos p
+    → Answers text before after r
+answers-put {text} {before} {after} {p} {r} h w e =
+    record {
+      result = rw (le-leb (length text) (length before) h) (e ∙ ap pos (w .place ∙ zero-add (length text)));
+      area = rw (le-leb (length text) (length before) h) (w .stored);
+    }
+
+pub answers-short : {text before : List ℕ} {r : ℤ} → length before < length text → r ≡ negsuc 31 → Answers text before before r
+answers-short {text} {before} {r} h e =
+    record { result = rw (lt-leb (length text) (length before) h) e; area = rw (lt-leb (length text) (length before) h) }
+
+-- A line by the values that it shows.
+pub put-as : {before after k l : List ℕ} {at p : ℕ} → k ≡ l → Put before at (valuesText k) after p → Put before at (valuesText l) after p
+put-as {before} {after} {k} {l} {at} {p} h w = subst (λ (m : List ℕ). Put before at (valuesText m) after p) h w
+
+-- The text of an image that is read so; q is the number as it is handed on.
+pub answers-read : (image : List ℕ) {before after : List ℕ} {q r : ℤ} (x y : Reading) → x ≡ judged image → x ≡ y → q ≡ r
+    → Answers (readText image y) before after r → Answers (textOf image) before after q
+answers-read image {before} {after} {q} {r} x y h k e a =
+    subst (λ (z : Reading). Answers (readText image z) before after q) (sym k ∙ h) (record { result = e ∙ a .result; area = a .area })
+
+-- What an accepted image says of its number of events.
+pub events-few : (image : List ℕ) (x : Reading) (s : Settings) (n : ℕ) → x ≡ judged image → x ≡ Accepted s n → (n ≤ 31 * (length image / 512)) × (n ≤ 1984)
+events-few image x s n h k =
+    let w = whole image s n (sym h ∙ k) in
+    let most = count-most image s n w in
+    (most, omega (arith, w .few-blocks))

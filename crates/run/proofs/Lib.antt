@@ -1,0 +1,6 @@
+pub mod Calls
+pub mod Plays
+pub mod Tells
+pub mod Traces
+pub mod Most
+pub mod Answers

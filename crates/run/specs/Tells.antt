@@ -1,0 +1,31 @@
+-- Events played one after the other: what the scheduler and its room have come to, and the text so far. Assumes nothing.
+use mathlib.Core.Path.{_≡_}
+use mathlib.Core.List.{List}
+use Prim.Native.Nat.{ℕ}
+use lib.ListN.{length}
+use Rattle.room.specs.Room.{Room}
+use Rattle.state.specs.declared.Scheduler.{Scheduler}
+use Rattle.scheduler.specs.Machine.{schedulerAfter, roomAfter, valuesBy, FromOpening}
+use Rattle.text.specs.Put.{Put}
+use Rattle.run.specs.declared.Told.{Told}
+use Rattle.run.specs.Trace.{linesText, callsOf}
+
+-- The lines of the first k events, from the scheduler s over the room r.
+abbrev pub eventsText : List ℕ → Scheduler → Room → (k : ℕ) → List ℕ
+eventsText image s r k = linesText (valuesBy s r (callsOf image k))
+
+-- After the first k events.
+pub record Reached (image : List ℕ) (s : Scheduler) (r : Room) (k : ℕ) (then : Scheduler) (left : Room) : Type 0 where
+  pub scheduler : then ≡ schedulerAfter s r (callsOf image k)
+  pub room : left ≡ roomAfter s r (callsOf image k)
+  pub kept : FromOpening then left
+
+-- The events' text was put at the start of the area.
+pub record Writes (image : List ℕ) (k : ℕ) (s : Scheduler) (r : Room) (before after : List ℕ) (x : Told) : Type 0 where
+  pub put : Put before 0 (eventsText image s r k) after (x .next)
+  pub scheduler : x .scheduler ≡ schedulerAfter s r (callsOf image k)
+
+-- The events' text was measured.
+pub record Measures (image : List ℕ) (k : ℕ) (s : Scheduler) (r : Room) (x : Told) : Type 0 where
+  pub total : x .next ≡ length (eventsText image s r k)
+  pub scheduler : x .scheduler ≡ schedulerAfter s r (callsOf image k)
