@@ -32,20 +32,8 @@ use Rattle.scheduler.specs.Calls.{openOf, headOf, packetOf, admitOf, adm
 use Rattle.scheduler.specs.Bounds.{Admits, Decides}
 use Rattle.scheduler.specs.Machine.{Made, made, schedulerAfter, roomAfter, FromOpening}
 use Rattle.scheduler.specs.Promises.{Opens, Arrives, Advances}
+use Rattle.scheduler.proofs.OneMore.{scheduler-more, room-more}
 use Rattle.scheduler.proofs.Premise.{stands, small, admits, decides}
-
--- A call more.
-scheduler-more : (s : Scheduler) (r : Room) (cs : List Call) (c : Call)
-    → schedulerAfter s r (cs ++ c ∷ []) ≡ made (schedulerAfter s r cs) (roomAfter s r cs) c .scheduler
-unfolding schedulerAfter roomAfter
-scheduler-more s r [] c = refl
-scheduler-more s r (d ∷ cs) c = scheduler-more (made s r d .scheduler) (made s r d .room) cs c
-
-room-more : (s : Scheduler) (r : Room) (cs : List Call) (c : Call)
-    → roomAfter s r (cs ++ c ∷ []) ≡ made (schedulerAfter s r cs) (roomAfter s r cs) c .room
-unfolding schedulerAfter roomAfter
-room-more s r [] c = refl
-room-more s r (d ∷ cs) c = room-more (made s r d .scheduler) (made s r d .room) cs c
 
 -- OPEN gives the premise, and each call keeps it.
 pub opened : (settings : Settings) (x : Opened) → x ≡ openOf settings → Opens settings x
