@@ -1,0 +1,4 @@
+pub mod Told
+pub mod Onward
+pub mod Demanded
+pub mod Accounted
