@@ -2,3 +2,4 @@ pub mod Told
 pub mod Onward
 pub mod Demanded
 pub mod Accounted
+pub mod Unchanged

@@ -1,6 +1,6 @@
 -- ACCOUNTING OF THE CODE: what becomes of each admitted number, the tallies and the clock. Assumes nothing.
 use mathlib.Core.Path.{_≡_}
-use mathlib.Core.List.{List, List·Memᴰ}
+use mathlib.Core.List.{List, [], _∷_, List·Memᴰ}
 use Prim.Native.Nat.{ℕ, _+_, _≤_, _<_}
 use Rattle.units.specs.declared.Settings.{Settings}
 use Rattle.rules.specs.Line.{fresh}
@@ -13,6 +13,7 @@ use Rattle.room.specs.Held.{Sized}
 use Rattle.state.specs.declared.Scheduler.{Scheduler}
 use Rattle.state.specs.Counts.{admissionsOf, goneOf}
 use Rattle.scheduler.specs.Values.{tallyValues}
+use Rattle.scheduler.specs.Machine.{made}
 use Rattle.guarantees.specs.Lines.{Begun, begunIn}
 use Rattle.guarantees.specs.Demands.{inForce, schedulerBy, linesBy}
 
@@ -50,3 +51,8 @@ ClockIsLast =
     → Sized lent
     → (cs : List Call)
     → schedulerBy settings lent cs .clock .0 ≡ lastInstant 0 cs (answers (inForce settings) fresh cs)
+
+-- A refused call, whatever it is called on, returns scheduler and room as they were.
+abbrev pub RefusedUnchanged : Type 0
+RefusedUnchanged =
+    (s : Scheduler) (r : Room) (c : Call) (n : ℕ) → made s r c .values ≡ 82 ∷ n ∷ [] → (made s r c .scheduler ≡ s) × (made s r c .room ≡ r)
