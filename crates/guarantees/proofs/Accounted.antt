@@ -1,18 +1,17 @@
 -- The accounting holds of the code. Assumes nothing.
 use mathlib.Core.Path.{_≡_, refl, sym, ap, _∙_}
 use mathlib.Core.Bool.{Bool, true, false}
-use mathlib.Core.Logic.{_⊎_, inl, inr, _↔_}
+use mathlib.Core.Logic.{inl, inr, _↔_}
 use mathlib.Core.List.{List, [], _∷_, map, List·Memᴰ, List·Memᴰ·head, List·Memᴰ·tail}
 use Prim.Native.Nat.{ℕ, suc, _+_, _≤_, _<_}
 use native.Mathlib.Omega.{arith}
 use lib.Dec.{ltb}
 use lib.ListN.{length}
 use borrow.Author.Tests.{ltb-true, ltb-false}
-use Rattle.units.specs.declared.Settings.{Settings}
 use Rattle.rules.specs.Terms.{Terms}
 use Rattle.rules.specs.Line.{Waiting, packet, Line, fresh, admissions, due}
-use Rattle.rules.specs.Step.{Call, arrive, advance, Start, Answer, Outcome, newcomer, after, answers}
-use Rattle.rules.specs.History.{starts, admittedFrom}
+use Rattle.rules.specs.Step.{Call, arrive, advance, Start, Answer, Outcome, newcomer, after}
+use Rattle.rules.specs.History.{admittedFrom}
 use Rattle.rules.specs.Demand.{admittedBy, startsBy}
 use Rattle.rules.specs.Account.{ExactlyOne}
 use Rattle.rules.specs.Account as account
@@ -21,13 +20,11 @@ use Rattle.rules.proofs.Moves.{Move, refuses, admits, idles, decides, induct}
 use Rattle.rules.proofs.Served.{admissions-joined, admissions-decided}
 use Rattle.rules.proofs.Fates.{one-fate}
 use Rattle.rules.proofs.Counted.{tallies-count, clock-is-last}
-use Rattle.room.specs.Room.{Room}
-use Rattle.room.specs.Held.{Sized}
 use Rattle.state.specs.Counts.{admissionsOf, goneOf}
 use Rattle.scheduler.specs.Represents.{Numbered}
 use Rattle.scheduler.proofs.Follows.{all-faithful}
 use Rattle.guarantees.specs.Lines.{Begun, begunIn}
-use Rattle.guarantees.specs.Demands.{inForce, schedulerBy, roomBy, linesBy}
+use Rattle.guarantees.specs.Demands.{inForce, schedulerBy, linesBy}
 use Rattle.guarantees.specs.Account.{HasStarted, WasDropped, IsWaiting, OneFate, TalliesCount, ClockIsLast}
 use Rattle.guarantees.proofs.Told.{begunOf, member-from, member-to}
 use Rattle.guarantees.proofs.Onward.{all-ranks}

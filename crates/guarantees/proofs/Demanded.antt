@@ -1,23 +1,21 @@
 -- Demand 3 holds of the code. Assumes nothing.
 use mathlib.Core.Path.{_≡_, refl, sym, ap, subst, _∙_}
-use mathlib.Core.Logic.{_↔_}
-use mathlib.Core.List.{List, [], _∷_, _++_, map, List·Memᴰ, List·Memᴰ·head, List·Memᴰ·tail}
-use Prim.Native.Nat.{ℕ, suc, _+_, _≤_, _<_}
+use mathlib.Core.List.{List, [], _∷_, map, List·Memᴰ, List·Memᴰ·head, List·Memᴰ·tail}
+use Prim.Native.Nat.{ℕ, suc, _<_}
 use native.Mathlib.Omega.{arith}
 use lib.ListN.{length, getD, take, length-map}
 use Rattle.units.specs.declared.Settings.{Settings}
 use Rattle.units.specs.declared.Marking.the-variants.{Unmarked}
-use Rattle.rules.specs.Terms.{Terms, termsOf}
+use Rattle.rules.specs.Terms.{Terms}
 use Rattle.rules.specs.Line.{Packet, Waiting, unmarked, marked, packet, Line, fresh, due}
-use Rattle.rules.specs.Extra.{span}
 use Rattle.rules.specs.Decide.{Decision}
-use Rattle.rules.specs.Step.{Call, arrive, advance, Start, Answer, admitted, started, nothingDue, refused, startOf, step, after, answers}
-use Rattle.rules.specs.History.{starts, unmarkedAlone, OnReference, referenceLine, Arrival}
+use Rattle.rules.specs.Step.{Call, arrive, advance, Start, Answer, admitted, started, nothingDue, refused, step, after, answers}
+use Rattle.rules.specs.History.{starts, unmarkedAlone, referenceLine, Arrival}
 use Rattle.rules.specs.History as history
-use Rattle.rules.specs.Demand.{Among, now, later, NonePasses}
+use Rattle.rules.specs.Demand.{Among, now, later}
 use Rattle.rules.specs.Demand as demand
 use Rattle.rules.specs.Printed.{lineOf}
-use Rattle.rules.proofs.Moves.{Choice, goes, fit, unfit, move}
+use Rattle.rules.proofs.Moves.{Choice, fit, unfit, move}
 use Rattle.rules.proofs.Reference.{demand-3a}
 use Rattle.rules.proofs.Place.{demand-3b}
 use Rattle.rules.proofs.Sent.{decision, demand-3c}

@@ -1,5 +1,5 @@
 -- From any list of calls on, the code follows the rules. Assumes nothing.
-use mathlib.Core.Path.{_≡_, refl, sym, ap, subst, _∙_}
+use mathlib.Core.Path.{_≡_, refl, sym, ap, subst}
 use mathlib.Core.List.{List, [], _∷_, _++_, map}
 use Prim.Native.Nat.{ℕ, _+_, _-_}
 use native.Mathlib.Omega.{arith}
@@ -16,7 +16,7 @@ use Rattle.state.specs.Counts.{admissionsOf, goneOf}
 use Rattle.scheduler.specs.Machine.{made, valuesBy}
 use Rattle.scheduler.specs.Represents.{Represents}
 use Rattle.scheduler.specs.Agreement.{Faithful}
-use Rattle.scheduler.proofs.Tests.{Fit, ranks}
+use Rattle.scheduler.proofs.Tests.{ranks}
 use Rattle.scheduler.proofs.Follows.{Follows, FitOn, follows, fit-from, fit-now, all-faithful}
 use Rattle.guarantees.specs.Demands.{inForce, schedulerBy, roomBy, waitingCount}
 

@@ -2,7 +2,7 @@
 use mathlib.Core.Path.{_≡_, refl, ap}
 use mathlib.Core.List.{List, [], _∷_, map, List·Memᴰ, List·Memᴰ·head, List·Memᴰ·tail}
 use Prim.Native.Nat.{ℕ, _+_}
-use Rattle.rules.specs.Line.{Waiting, unmarked, marked}
+use Rattle.rules.specs.Line.{unmarked, marked}
 use Rattle.rules.specs.Step.{Call, arrive, advance, Start, Answer, admitted, started, nothingDue, refused}
 use Rattle.rules.specs.History.{starts, Arrival, admittedFrom}
 use Rattle.rules.specs.History as history

@@ -10,7 +10,7 @@ use Rattle.refusals.specs.First.{firstOf, numberOf}
 use Rattle.units.specs.declared.Instant.{Instant}
 use Rattle.units.specs.declared.Marking.{Marking}
 use Rattle.units.specs.declared.Marking.the-variants.{Unmarked, Marked}
-use Rattle.rules.specs.Step.{Call, arrive, advance}
+use Rattle.rules.specs.Step.{arrive, advance}
 use Rattle.room.specs.declared.Packet.{Packet}
 use Rattle.room.specs.Room.{Room}
 use Rattle.state.specs.declared.Scheduler.{Scheduler}
@@ -21,9 +21,9 @@ use Rattle.scheduler.specs.declared.Admission.{Admission}
 use Rattle.scheduler.specs.declared.Arrived.{Arrived}
 use Rattle.scheduler.specs.declared.Outcome.{Outcome}
 use Rattle.scheduler.specs.declared.Advanced.{Advanced}
-use Rattle.scheduler.specs.Calls.{headOf, packetOf, byMarking, admitUnmarked, admitMarked, admitOf, admitRoom, arrivalRefusal, arriveOf, arriveRoom, sentOf, startHead, startFirst, decideOf, nothingAt, atDue, waiting, advanceOf}
+use Rattle.scheduler.specs.Calls.{headOf, packetOf, byMarking, admitUnmarked, admitMarked, admitOf, admitRoom, arrivalRefusal, arriveOf, arriveRoom, sentOf, startHead, startFirst, decideOf, nothingAt, waiting, advanceOf}
 use Rattle.scheduler.specs.Values.{admissionValues, advanceValues}
-use Rattle.scheduler.specs.Machine.{bytes, instant, made}
+use Rattle.scheduler.specs.Machine.{bytes, instant}
 use Rattle.guarantees.specs.Account.{RefusedUnchanged}
 
 -- No line of an admission, of a start or of nothing due begins with R.

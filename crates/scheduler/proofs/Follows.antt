@@ -1,5 +1,5 @@
 -- Every list of calls from every opening: the code gives the rules' answers. Assumes nothing.
-use mathlib.Core.Path.{_≡_, refl, sym, ap, subst, _∙_}
+use mathlib.Core.Path.{_≡_, refl, sym, subst}
 use mathlib.Core.List.{List, [], _∷_, map}
 use mathlib.Core.Option.{Option, none, some}
 use Prim.Native.Nat.{ℕ, _≤_}
@@ -9,15 +9,13 @@ use Rattle.refusals.specs.First.{firstOf, numberOf}
 use Rattle.refusals.proofs.Laws.{given}
 use Rattle.units.specs.declared.Settings.{Settings}
 use Rattle.units.specs.Limits.{settingsTests}
-use Rattle.rules.specs.Terms.{Terms, termsOf}
+use Rattle.rules.specs.Terms.{termsOf}
 use Rattle.rules.specs.Line as rules
 use Rattle.rules.specs.Line.{fresh}
 use Rattle.rules.specs.Step.{Call, arrive, advance, step, after, answers}
 use Rattle.rules.specs.Printed.{lineOf, tallyLine}
 use Rattle.rules.specs.Open.{opened}
 use Rattle.rules.specs.Open as asked
-use Rattle.rules.specs.Bounds.{Bounds}
-use Rattle.rules.specs.Opened.{timeMost}
 use Rattle.rules.proofs.Reached.{reached}
 use Rattle.rules.proofs.Opened.{opens-sound, opens-bounded}
 use Rattle.room.specs.Room.{Room}
@@ -27,9 +25,9 @@ use Rattle.state.specs.declared.Scheduler.{Scheduler}
 use Rattle.state.specs.Steps.{freshOf}
 use Rattle.scheduler.specs.Calls.{opening, openOf}
 use Rattle.scheduler.specs.Values.{openingNumber, tallyValues}
-use Rattle.scheduler.specs.Machine.{Made, made, schedulerAfter, roomAfter, valuesBy, packetsBy}
+use Rattle.scheduler.specs.Machine.{made, schedulerAfter, roomAfter, valuesBy, packetsBy}
 use Rattle.scheduler.specs.Represents.{startedPacket, Tallied, Represents}
-use Rattle.scheduler.specs.Agreement.{Agrees, Faithful, AllFaithful, OpensAlike}
+use Rattle.scheduler.specs.Agreement.{Agrees, AllFaithful, OpensAlike}
 use Rattle.scheduler.proofs.Tests.{Fit}
 use Rattle.scheduler.proofs.Arrives.{arrival-agrees}
 use Rattle.scheduler.proofs.Advances.{advance-agrees}

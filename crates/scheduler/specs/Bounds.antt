@@ -1,7 +1,7 @@
 -- What the arithmetic of an admission and of a start asks of the numbers. Assumes nothing.
 use mathlib.Core.Path.{_≡_}
-use mathlib.Core.Bool.{Bool, true, false}
-use Prim.Native.Nat.{ℕ, _+_, _≤_, _<_}
+use mathlib.Core.Bool.{true, false}
+use Prim.Native.Nat.{_+_, _≤_, _<_}
 use Rattle.units.specs.declared.Instant.{Instant}
 use Rattle.units.specs.Limits.{instantMost, admissionsMost}
 use Rattle.room.specs.declared.Packet.{Packet}

@@ -1,7 +1,7 @@
 -- What each call gives, and what it leaves in the room: exactly, for accepted and refused calls alike. Assumes nothing.
-use mathlib.Core.Bool.{Bool, true, false}
+use mathlib.Core.Bool.{Bool, false}
 use Prim.Native.Nat.{ℕ, _+_, _-_}
-use lib.Dec.{leb, ltb, eqb}
+use lib.Dec.{ltb, eqb}
 use Rattle.refusals.specs.First.{firstOf, numberOf}
 use Rattle.units.specs.declared.Bytes.{Bytes}
 use Rattle.units.specs.declared.Ticks.{Ticks}
@@ -22,7 +22,6 @@ use Rattle.scheduler.specs.declared.Opening.{Opening}
 use Rattle.scheduler.specs.declared.Opened.{Opened}
 use Rattle.scheduler.specs.declared.Admission.{Admission}
 use Rattle.scheduler.specs.declared.Arrived.{Arrived}
-use Rattle.scheduler.specs.declared.Start.{Start}
 use Rattle.scheduler.specs.declared.Decision.{Decision}
 use Rattle.scheduler.specs.declared.Outcome.{Outcome}
 use Rattle.scheduler.specs.declared.Advanced.{Advanced}

@@ -3,11 +3,8 @@ use mathlib.Core.Path.{_≡_}
 use mathlib.Core.List.{List, [], _∷_, map}
 use mathlib.Core.Option.{Option, none, some}
 use Prim.Native.Nat.{ℕ, suc, _-_, _≤_}
-use Rattle.units.specs.declared.Bytes.{Bytes}
-use Rattle.units.specs.declared.Instant.{Instant}
 use Rattle.units.specs.declared.Marking.{Marking}
 use Rattle.units.specs.declared.Marking.the-variants.{Unmarked, Marked}
-use Rattle.units.specs.Limits.{alphaMost}
 use Rattle.rules.specs.Terms.{Terms}
 use Rattle.rules.specs.Line as rules
 use Rattle.rules.specs.Line.{Waiting, unmarked, marked, packet, Carried, nothing, markedOne, unmarkedOne, unmarkedOf, due}

@@ -1,5 +1,5 @@
 -- What the five tallies tell: how many were admitted, how many are gone, how many of each marking wait. Assumes nothing.
-use mathlib.Core.Bool.{Bool, true, false, not}
+use mathlib.Core.Bool.{Bool, not}
 use Prim.Native.Nat.{ℕ, _+_, _-_, _≤_}
 use lib.Dec.{eqb}
 use Rattle.units.specs.declared.Marking.{Marking}

@@ -1,7 +1,6 @@
 -- The refusals of an arrival and of an advance, in document 01's order. Assumes nothing.
 use mathlib.Core.Bool.{Bool, _&&_, not}
 use mathlib.Core.List.{List, [], _∷_}
-use Prim.Native.Nat.{ℕ, max}
 use lib.Dec.{leb, ltb}
 use Rattle.refusals.specs.First.{Test}
 use Rattle.units.specs.declared.Bytes.{Bytes}
