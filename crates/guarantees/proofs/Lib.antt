@@ -3,3 +3,4 @@ pub mod Onward
 pub mod Demanded
 pub mod Accounted
 pub mod Unchanged
+pub mod Queued
