@@ -45,10 +45,10 @@ module _ {A : Type 0} (w : ℕ) where
   length-rows zero g h = rw (mul-zero w)
   length-rows (suc n) g h = rw (length-append, length-rows n g h, h n, mul-suc w n)
 
-  -- Piece k stands at w * k.
-  pub piece : (n k : ℕ) (g : ℕ → List A) → ((j : ℕ) → length (g j) ≡ w) → k < n → take w (drop (w * k) (rows n g)) ≡ g k
-  piece n k g h l =
-      rw (rows-split n k g l, drop-at (rows k g) _ (w * k) (length-rows k g h), take-at (g k) _ w (h k))
+  -- Piece k stands at w * k, whatever follows the pieces.
+  pub piece : (n k : ℕ) (g : ℕ → List A) (r : List A) → ((j : ℕ) → length (g j) ≡ w) → k < n → take w (drop (w * k) (rows n g ++ r)) ≡ g k
+  piece n k g r h l =
+      rw (rows-split n k g l, append-assoc (rows k g) _ r, append-assoc (g k) _ r, drop-at (rows k g) _ (w * k) (length-rows k g h), take-at (g k) _ w (h k))
 
   -- The pieces of a list make the list.
   pub pieces : (n : ℕ) (s : List A) → rows n (λ k. take w (drop (w * k) s)) ≡ take (w * n) s

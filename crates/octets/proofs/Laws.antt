@@ -45,6 +45,16 @@ number-after p q r m n e f =
     ∙ List·getD-append q r 0 k (omega arith)
     ∙ ap (λ (j : ℕ). getD q j 0) (omega arith))
 
+-- The bytes of a part are bytes.
+pub octets-drop : (n : ℕ) (s : List ℕ) → Octets s → Octets (drop n s)
+octets-drop n s b i = rw (getD-drop n s i 0) (b (n + i))
+
+pub octets-take : (n : ℕ) (s : List ℕ) → Octets s → Octets (take n s)
+octets-take zero s b i = omega arith
+octets-take (suc n) [] b i = omega arith
+octets-take (suc n) (x ∷ s) b zero = b 0
+octets-take (suc n) (x ∷ s) b (suc i) = octets-take n s (λ j. b (suc j)) i
+
 pos : (n : ℕ) → 0 < 256 ^ n
 pos zero = omega arith
 pos (suc n) = rw (pow-suc 256 n) (let h = pos n in omega arith)

@@ -3,8 +3,9 @@ use mathlib.Core.Path.{_≡_, refl, sym, subst}
 use mathlib.Core.Bool.{Bool, true, false}
 use mathlib.Core.List.{List, [], _∷_}
 use mathlib.Core.Option.{Option, none, some, Option·some-ne-none, Option·some-injective}
-use Prim.Native.Nat.{ℕ}
-use Rattle.refusals.specs.First.{Test, orElse, firstOf, Passes}
+use Prim.Native.Nat.{ℕ, _≤_}
+use native.Mathlib.Omega.{arith}
+use Rattle.refusals.specs.First.{Test, orElse, firstOf, numberOf, Passes}
 
 passed : (b : Bool) (n : ℕ) (next : Option ℕ) → orElse b n next ≡ none → (b ≡ false) × (next ≡ none)
 passed true n next e = absurd (Option·some-ne-none n e)
@@ -28,3 +29,18 @@ given-by P false m n next p go e = go e
 pub given : (P : ℕ → Type 0) (ts : List Test) (n : ℕ) → EachNumber P ts → firstOf ts ≡ some n → P n
 given P [] n h e = absurd (Option·some-ne-none n (sym e))
 given P (t ∷ ts) n h e = given-by P (t .holds) (t .number) n (firstOf ts) (h .0) (given P ts n (h .1)) e
+
+-- Where every number is at least 1, the number 0 says that there is no refusal, and any other that there is one.
+zero-none-of : (o : Option ℕ) → ((n : ℕ) → o ≡ some n → 1 ≤ n) → numberOf o ≡ 0 → o ≡ none
+zero-none-of none h e = refl
+zero-none-of (some n) h e = absurd (omega (arith, h n refl))
+
+pub zero-none : (ts : List Test) → EachNumber (λ (n : ℕ). 1 ≤ n) ts → numberOf (firstOf ts) ≡ 0 → firstOf ts ≡ none
+zero-none ts h e = zero-none-of (firstOf ts) (λ n i. given (λ (n : ℕ). 1 ≤ n) ts n h i) e
+
+nonzero-some-of : (o : Option ℕ) → ¬ (numberOf o ≡ 0) → (n : ℕ) × (o ≡ some n)
+nonzero-some-of none h = absurd (h refl)
+nonzero-some-of (some n) h = (n, refl)
+
+pub nonzero-some : (ts : List Test) → ¬ (numberOf (firstOf ts) ≡ 0) → (n : ℕ) × (firstOf ts ≡ some n)
+nonzero-some ts h = nonzero-some-of (firstOf ts) h

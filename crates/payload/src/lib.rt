@@ -1,0 +1,63 @@
+// The payload view: the part of a lent area where a packet's payload lies, and the number of its refusal.
+ghost use mathlib.Core.Path.{_≡_};
+ghost use Rattle.refusals.specs.First.{firstOf, numberOf};
+ghost use Rattle.payload.specs.View.{areaOf, viewTests, Viewed};
+use units::Bytes;
+use units::Marking;
+
+// The refusal number in one area, 0 if there is none.
+fn part_refusal(area: &[u8], length: Bytes, place: u32) -> u8
+    ensures { λ r. ⌜ r ≡ numberOf (firstOf (viewTests (now (area .entry)) (length .0) place)) ⌝ }
+{
+    if !units::length_in_range(length) {
+        return 1;
+    }
+    if (area.len() as u64) < (place as u64) + (length.0 as u64) {
+        return 31;
+    }
+    0
+}
+
+fn part(area: &[u8], length: Bytes, place: u32) -> &[u8]
+    ensures { λ r. ⌜ Viewed (area .entry) (length .0) place r ⌝ }
+{
+    if part_refusal(area, length, place) == 0 {
+        let from = place as usize;
+        let to = from + (length.0 as usize);
+        &area[from..to]
+    } else {
+        &area[..0]
+    }
+}
+
+// The payload itself: that part of the area that the marking names, or an empty part.
+pub fn view<'a>(
+    unmarked: &'a [u8],
+    marked: &'a [u8],
+    marking: Marking,
+    length: Bytes,
+    place: u32,
+) -> &'a [u8]
+    ensures { λ r. ⌜ Viewed (areaOf marking (unmarked .entry) (marked .entry)) (length .0) place r ⌝ }
+{
+    match marking {
+        Marking::Unmarked => part(unmarked, length, place),
+        Marking::Marked => part(marked, length, place),
+    }
+}
+
+// The refusal number of the same view, 0 if there is none.
+pub fn view_refusal<'a>(
+    unmarked: &'a [u8],
+    marked: &'a [u8],
+    marking: Marking,
+    length: Bytes,
+    place: u32,
+) -> u8
+    ensures { λ r. ⌜ r ≡ numberOf (firstOf (viewTests (areaOf marking (now (unmarked .entry)) (now (marked .entry))) (length .0) place)) ⌝ }
+{
+    match marking {
+        Marking::Unmarked => part_refusal(unmarked, length, place),
+        Marking::Marked => part_refusal(marked, length, place),
+    }
+}

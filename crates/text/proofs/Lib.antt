@@ -1,0 +1,4 @@
+pub mod Digits
+pub mod Fields
+pub mod Puts
+pub mod ReadBack
