@@ -15,6 +15,7 @@ pub record Begun : Type 0 where
   pub extra : ℕ
   pub dropped : ℕ
 
+-- Its letter, and its four numbers.
 abbrev pub isStart : List ℕ → Bool
 isStart l = eqb (getD l 0 0) 83
 

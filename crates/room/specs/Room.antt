@@ -19,6 +19,7 @@ pub record Room : Type 0 where
   pub numbers : List ℕ
   pub differences : List ℕ
 
+-- A room by its columns.
 abbrev pub columns : (markings lengths places arrivals numbers differences : List ℕ) → Room
 columns m l p a n d = record { markings = m; lengths = l; places = p; arrivals = a; numbers = n; differences = d }
 
@@ -34,6 +35,7 @@ byCode false = Marked
 abbrev pub markingOf : ℕ → Marking
 markingOf code = byCode (eqb code 0)
 
+-- The slot of a rank, for packets and in the difference queue.
 abbrev pub slotOf : (rank : ℕ) → ℕ
 slotOf rank = rank % 128
 

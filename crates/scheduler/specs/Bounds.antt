@@ -11,17 +11,20 @@ use Rattle.state.specs.Counts.{admissionsOf, goneOf}
 use Rattle.state.specs.Bounds.{timesMost, Small}
 use Rattle.scheduler.specs.Calls.{timeOf, sentOf, firstNumber, firstPacket, aheadCount}
 
+-- Of a packet that no test refuses.
 pub record Admits (s : Scheduler) (p : Packet) : Type 0 where
   pub small : Small s
   pub numbers : admissionsOf (s .tallies) < admissionsMost
   pub time : timeOf s p .0 ≤ timesMost
 
+-- Of a start of the packet at the head.
 pub record HeadStarts (s : Scheduler) (head : Packet) (due : Instant) : Type 0 where
   pub small : Small s
   pub waits : goneOf (s .tallies) < admissionsMost
   pub soon : due .0 ≤ instantMost
   pub time : timeOf s head .0 ≤ timesMost
 
+-- Of a start of the first waiting unmarked packet.
 pub record FirstStarts (s : Scheduler) (r : Room) (due : Instant) : Type 0 where
   pub small : Small s
   pub waits : s .tallies .started .unmarked < admissionsMost
@@ -30,6 +33,7 @@ pub record FirstStarts (s : Scheduler) (r : Room) (due : Instant) : Type 0 where
   pub soon : due .0 ≤ instantMost
   pub time : timeOf s (firstPacket s r) .0 ≤ timesMost
 
+-- Of a decision, whichever of the two it starts.
 pub record Decides (s : Scheduler) (r : Room) (head : Packet) (due : Instant) : Type 0 where
   pub small : Small s
   pub time : timeOf s head .0 ≤ timesMost

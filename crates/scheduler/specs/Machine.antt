@@ -21,6 +21,7 @@ pub record Made : Type 0 where
   pub values : List ℕ
   pub packet : Option Packet
 
+-- A call's numbers as the code has them.
 abbrev pub bytes : ℕ → Bytes
 bytes n = record { 0 = n }
 
