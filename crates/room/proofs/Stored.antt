@@ -1,10 +1,8 @@
 -- The waiting room as a ring: what was put under a number is there, and stays while the next puts are less than a whole ring away. Assumes nothing.
 use mathlib.Core.Path.{_≡_, refl}
-use Prim.Native.Nat.{ℕ, _+_, _%_, _≤_, _<_}
+use Prim.Native.Nat.{ℕ, _+_, _<_}
 use native.Mathlib.Omega.{arith}
-use lib.ListN.{length, getD, set, length-set}
-use Rattle.units.specs.declared.Bytes.{Bytes}
-use Rattle.units.specs.declared.Instant.{Instant}
+use lib.ListN.{length, length-set}
 use Rattle.units.specs.declared.Marking.{Marking}
 use Rattle.units.specs.declared.Marking.the-variants.{Unmarked, Marked}
 use Rattle.room.specs.declared.Packet.{Packet}

@@ -5,6 +5,7 @@ use Prim.Native.Nat.{ℕ, suc}
 use lib.ListN.{length}
 use Rattle.room.specs.Room.{Room}
 
+-- Read from n on, these are the values of the list.
 abbrev pub Held : {A : Type 0} → (at : ℕ → A) → (n : ℕ) → List A → Type 0
 Held at n [] = Unit {0}
 Held at n (x ∷ xs) = (at n ≡ x) × Held at (suc n) xs

@@ -1,12 +1,10 @@
 -- The waiting room as its columns hold it. A packet's rank is how many were admitted before it, its number less 1; rank n stands in slot
 -- n % 128. In the difference queue the rank counts unmarked packets alone, and n stands in slot n % 64. Assumes nothing.
 use mathlib.Core.Bool.{Bool, true, false}
-use mathlib.Core.List.{List, [], _∷_}
+use mathlib.Core.List.{List}
 use Prim.Native.Nat.{ℕ, _%_}
 use lib.Dec.{eqb}
 use lib.ListN.{getD, set}
-use Rattle.units.specs.declared.Bytes.{Bytes}
-use Rattle.units.specs.declared.Instant.{Instant}
 use Rattle.units.specs.declared.Marking.{Marking}
 use Rattle.units.specs.declared.Marking.the-variants.{Unmarked, Marked}
 use Rattle.room.specs.declared.Packet.{Packet}
@@ -21,6 +19,7 @@ pub record Room : Type 0 where
   pub numbers : List ℕ
   pub differences : List ℕ
 
+-- A room by its columns.
 abbrev pub columns : (markings lengths places arrivals numbers differences : List ℕ) → Room
 columns m l p a n d = record { markings = m; lengths = l; places = p; arrivals = a; numbers = n; differences = d }
 
@@ -36,6 +35,7 @@ byCode false = Marked
 abbrev pub markingOf : ℕ → Marking
 markingOf code = byCode (eqb code 0)
 
+-- The slot of a rank, for packets and in the difference queue.
 abbrev pub slotOf : (rank : ℕ) → ℕ
 slotOf rank = rank % 128
 

@@ -1,4 +1,5 @@
-// The waiting room: packets and the difference queue in columns that the caller lends. Nobody else touches the columns.
+// The waiting room: packets and the difference queue in columns that the caller lends. Nobody else touches the columns, and the functions serve
+// the crate `scheduler` only.
 ghost use mathlib.Core.Path.{_≡_};
 ghost use lib.ListN.{getD, set};
 ghost use Rattle.room.specs.Room.{codeOf, markingOf, slotOf, turnOf, packetIn};
@@ -15,6 +16,7 @@ pub struct Packet {
     pub arrival: Instant,
 }
 
+// A marking as a number in its column, and back.
 fn code_of(marking: Marking) -> u8
     ensures { λ r. ⌜ r ≡ codeOf marking ⌝ }
 {

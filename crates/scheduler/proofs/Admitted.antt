@@ -1,15 +1,14 @@
 -- An admission: the scheduler and the room stand for the line with one more packet. Assumes nothing.
-use mathlib.Core.Path.{_≡_, refl, sym, ap, _∙_}
+use mathlib.Core.Path.{_≡_, refl, sym, _∙_}
 use mathlib.Core.List.{List, [], _∷_, _++_, map, map-append, append-nil}
-use Prim.Native.Nat.{ℕ, suc, _+_, _-_, _≤_, _<_}
+use Prim.Native.Nat.{ℕ, _+_, _-_, _≤_, _<_}
 use native.Mathlib.Omega.{arith}
 use lib.Dec.{eqb}
 use lib.ListN.{length, length-map}
-use Rattle.units.specs.declared.Marking.{Marking}
 use Rattle.units.specs.declared.Marking.the-variants.{Unmarked, Marked}
 use Rattle.rules.specs.Terms.{Terms, termsOf}
 use Rattle.rules.specs.Line as rules
-use Rattle.rules.specs.Line.{Waiting, unmarked, marked, packet, unmarkedOf, admissions, dueOf, due}
+use Rattle.rules.specs.Line.{Waiting, unmarked, packet, unmarkedOf, dueOf, due}
 use Rattle.rules.specs.Extra.{span, spans, extraDelay}
 use Rattle.rules.specs.Delay.{byRule, lastExtra}
 use Rattle.rules.specs.Step.{newcomer, joined}

@@ -1,12 +1,12 @@
 -- An advance gives the rules' answer, and leaves what stands for the rules' line. Assumes nothing.
-use mathlib.Core.Path.{_≡_, refl, sym, ap, subst, _∙_}
+use mathlib.Core.Path.{_≡_, refl, sym, ap, subst}
 use mathlib.Core.Bool.{Bool, true, false}
 use mathlib.Core.List.{List, [], _∷_, _++_, map}
 use mathlib.Core.Option.{Option, none, some}
-use Prim.Native.Nat.{ℕ, suc, _+_, _-_, _≤_, _<_}
+use Prim.Native.Nat.{ℕ, _+_, _-_, _≤_}
 use native.Mathlib.Omega.{arith}
 use native.Mathlib.Numerals.{add-one}
-use lib.Dec.{leb, ltb}
+use lib.Dec.{leb}
 use lib.ListN.{length}
 use borrow.Author.Tests.{ne-eqb, eq-eqb, lt-ltb, le-ltb, leb-true, leb-false}
 use Rattle.refusals.specs.First.{Test, firstOf, numberOf}
@@ -28,10 +28,10 @@ use Rattle.state.specs.Counts.{admissionsOf, goneOf, waitsOf}
 use Rattle.state.specs.Delays.{dueOf}
 use Rattle.state.specs.Refusals.{advanceTests}
 use Rattle.scheduler.specs.declared.Advanced.{Advanced}
-use Rattle.scheduler.specs.Calls.{headOf, timeOf, sentOf, startHead, startFirst, decideOf, nothingAt, atDue, waiting, advancing, advanceOf, firstNumber, firstPacket, aheadCount, nextLess}
+use Rattle.scheduler.specs.Calls.{headOf, timeOf, startHead, startFirst, decideOf, nothingAt, atDue, waiting, advancing, advanceOf, firstPacket, aheadCount, nextLess}
 use Rattle.scheduler.specs.Values.{advanceValues, handed}
 use Rattle.scheduler.specs.Machine.{Made, instant, made}
-use Rattle.scheduler.specs.Represents.{asPacket, Represents}
+use Rattle.scheduler.specs.Represents.{Represents}
 use Rattle.scheduler.specs.Agreement.{Agrees}
 use Rattle.scheduler.proofs.Tests.{Fit, ranks, advance-tests-same}
 use Rattle.scheduler.proofs.Started.{marked-started, unmarked-started}

@@ -1,6 +1,6 @@
 -- An arrival gives the rules' answer, and leaves what stands for the rules' line. Assumes nothing.
 use mathlib.Core.Path.{_≡_, refl, sym, ap, subst}
-use mathlib.Core.List.{List, [], _∷_}
+use mathlib.Core.List.{List}
 use mathlib.Core.Option.{Option, none, some}
 use Prim.Native.Nat.{ℕ, _+_, _≤_}
 use native.Mathlib.Omega.{arith}
@@ -21,7 +21,7 @@ use Rattle.room.specs.Room.{Room}
 use Rattle.state.specs.declared.Scheduler.{Scheduler}
 use Rattle.state.specs.Counts.{admissionsOf}
 use Rattle.state.specs.Refusals.{arrivalTests}
-use Rattle.scheduler.specs.Calls.{headOf, packetOf, newDelay, admitOf, admitRoom, arriving, arrivingRoom, arrivalRefusal, arriveOf, arriveRoom}
+use Rattle.scheduler.specs.Calls.{packetOf, admitOf, admitRoom, arriving, arrivingRoom, arrivalRefusal, arriveOf, arriveRoom}
 use Rattle.scheduler.specs.Values.{admissionValues}
 use Rattle.scheduler.specs.Machine.{Made, bytes, instant, made}
 use Rattle.scheduler.specs.Represents.{Represents}

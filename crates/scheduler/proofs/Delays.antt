@@ -15,7 +15,7 @@ use Rattle.rules.specs.Extra.{span, spans}
 use Rattle.rules.specs.Delay.{orElse, onlyIf, onLine, smallerOf, lastExtra, gap}
 use Rattle.rules.proofs.Planned.{Planned}
 use Rattle.state.specs.Delays.{pick, isUnmarked}
-use Rattle.scheduler.specs.Represents.{gapsFrom, gaps, markingOn, extraOn, IfAny}
+use Rattle.scheduler.specs.Represents.{gapsFrom, markingOn, extraOn, IfAny}
 
 -- The rule of the code and the rule of the rules, on an unmarked packet that waits.
 follows-waiting : (o c : Option ℕ) (z x u : ℕ) → IfAny (orElse (orElse o (some z)) c) x → min x u ≡ smallerOf (orElse (orElse o (some z)) c) u

@@ -1,5 +1,5 @@
 -- Every list of calls from every opening: the code gives the rules' answers. Assumes nothing.
-use mathlib.Core.Path.{_≡_, refl, sym, ap, subst, _∙_}
+use mathlib.Core.Path.{_≡_, refl, sym, subst}
 use mathlib.Core.List.{List, [], _∷_, map}
 use mathlib.Core.Option.{Option, none, some}
 use Prim.Native.Nat.{ℕ, _≤_}
@@ -9,15 +9,13 @@ use Rattle.refusals.specs.First.{firstOf, numberOf}
 use Rattle.refusals.proofs.Laws.{given}
 use Rattle.units.specs.declared.Settings.{Settings}
 use Rattle.units.specs.Limits.{settingsTests}
-use Rattle.rules.specs.Terms.{Terms, termsOf}
+use Rattle.rules.specs.Terms.{termsOf}
 use Rattle.rules.specs.Line as rules
 use Rattle.rules.specs.Line.{fresh}
 use Rattle.rules.specs.Step.{Call, arrive, advance, step, after, answers}
 use Rattle.rules.specs.Printed.{lineOf, tallyLine}
 use Rattle.rules.specs.Open.{opened}
 use Rattle.rules.specs.Open as asked
-use Rattle.rules.specs.Bounds.{Bounds}
-use Rattle.rules.specs.Opened.{timeMost}
 use Rattle.rules.proofs.Reached.{reached}
 use Rattle.rules.proofs.Opened.{opens-sound, opens-bounded}
 use Rattle.room.specs.Room.{Room}
@@ -27,9 +25,9 @@ use Rattle.state.specs.declared.Scheduler.{Scheduler}
 use Rattle.state.specs.Steps.{freshOf}
 use Rattle.scheduler.specs.Calls.{opening, openOf}
 use Rattle.scheduler.specs.Values.{openingNumber, tallyValues}
-use Rattle.scheduler.specs.Machine.{Made, made, schedulerAfter, roomAfter, valuesBy, packetsBy}
+use Rattle.scheduler.specs.Machine.{made, schedulerAfter, roomAfter, valuesBy, packetsBy}
 use Rattle.scheduler.specs.Represents.{startedPacket, Tallied, Represents}
-use Rattle.scheduler.specs.Agreement.{Agrees, Faithful, AllFaithful, OpensAlike}
+use Rattle.scheduler.specs.Agreement.{Agrees, AllFaithful, OpensAlike}
 use Rattle.scheduler.proofs.Tests.{Fit}
 use Rattle.scheduler.proofs.Arrives.{arrival-agrees}
 use Rattle.scheduler.proofs.Advances.{advance-agrees}
@@ -41,11 +39,11 @@ agrees s r l rep fit (arrive μ len place t) = arrival-agrees s r l rep fit μ l
 agrees s r l rep fit (advance t) = advance-agrees s r l rep fit t
 
 -- The calls cs from a scheduler that stands for the line l, under the settings w.
-record Follows (w : Settings) (s : Scheduler) (r : Room) (l : rules.Line) (cs : List Call) : Type 0 where
-  values : valuesBy s r cs ≡ map lineOf (answers (termsOf w) l cs)
-  packets : packetsBy s r cs ≡ map startedPacket (answers (termsOf w) l cs)
-  inForce : schedulerAfter s r cs .settings ≡ w
-  represents : Represents (termsOf w) (schedulerAfter s r cs) (roomAfter s r cs) (after (termsOf w) l cs)
+pub record Follows (w : Settings) (s : Scheduler) (r : Room) (l : rules.Line) (cs : List Call) : Type 0 where
+  pub values : valuesBy s r cs ≡ map lineOf (answers (termsOf w) l cs)
+  pub packets : packetsBy s r cs ≡ map startedPacket (answers (termsOf w) l cs)
+  pub inForce : schedulerAfter s r cs .settings ≡ w
+  pub represents : Represents (termsOf w) (schedulerAfter s r cs) (roomAfter s r cs) (after (termsOf w) l cs)
 
 one-more : (w : Settings) (s : Scheduler) (r : Room) (l : rules.Line) (c : Call) (cs : List Call)
     → Agrees (termsOf w) s (made s r c) (step (termsOf w) l c) → Follows w (made s r c .scheduler) (made s r c .room) (step (termsOf w) l c .line) cs
@@ -64,18 +62,18 @@ unfolding valuesBy packetsBy schedulerAfter roomAfter after answers
 no-more s r l rep = record { values = refl; packets = refl; inForce = refl; represents = rep }
 
 -- Every line to come is fit.
-abbrev FitOn : Settings → rules.Line → Type 0
+abbrev pub FitOn : Settings → rules.Line → Type 0
 FitOn w l = (more : List Call) → Fit (termsOf w) (after (termsOf w) l more)
 
-fit-now : (w : Settings) (l : rules.Line) → FitOn w l → Fit (termsOf w) l
+pub fit-now : (w : Settings) (l : rules.Line) → FitOn w l → Fit (termsOf w) l
 unfolding after
 fit-now w l h = h []
 
-fit-then : (w : Settings) (l : rules.Line) (c : Call) → FitOn w l → FitOn w (step (termsOf w) l c .line)
+pub fit-then : (w : Settings) (l : rules.Line) (c : Call) → FitOn w l → FitOn w (step (termsOf w) l c .line)
 unfolding after
 fit-then w l c h more = h (c ∷ more)
 
-follows : (cs : List Call) (s : Scheduler) (r : Room) (l : rules.Line) → Represents (termsOf (s .settings)) s r l → FitOn (s .settings) l
+pub follows : (cs : List Call) (s : Scheduler) (r : Room) (l : rules.Line) → Represents (termsOf (s .settings)) s r l → FitOn (s .settings) l
     → Follows (s .settings) s r l cs
 follows [] s r l rep fits = no-more s r l rep
 follows (c ∷ cs) s r l rep fits =

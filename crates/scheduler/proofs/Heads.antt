@@ -1,15 +1,14 @@
 -- What the code reads from the room is what the line has: the packet at the head, the first waiting unmarked one, the due instant. Assumes nothing.
-use mathlib.Core.Path.{_≡_, refl, sym, ap, _∙_}
-use mathlib.Core.Bool.{Bool, true, false, _||_}
+use mathlib.Core.Path.{_≡_, refl, ap, _∙_}
+use mathlib.Core.Bool.{false}
 use mathlib.Core.List.{List, [], _∷_, _++_, map, map-append}
-use Prim.Native.Nat.{ℕ, suc, _+_, _-_, _≤_, _<_, max}
+use Prim.Native.Nat.{ℕ, suc, _+_, _-_}
 use native.Mathlib.Omega.{arith}
-use lib.Dec.{eqb, leb}
 use lib.ListN.{length, length-map}
 use borrow.Author.Tests.{ne-eqb, eq-eqb}
 use Rattle.units.specs.declared.Ticks.{Ticks}
 use Rattle.units.specs.declared.Settings.{Settings}
-use Rattle.units.specs.declared.Marking.the-variants.{Unmarked, Marked}
+use Rattle.units.specs.declared.Marking.the-variants.{Unmarked}
 use Rattle.rules.specs.Terms.{Terms, termsOf}
 use Rattle.rules.specs.Line as rules
 use Rattle.rules.specs.Line.{Waiting, unmarked, marked, packet, unmarkedOf, due}

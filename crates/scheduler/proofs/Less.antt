@@ -1,18 +1,18 @@
 -- What a start makes of the extra delays: all later by a marked packet's span, or the first one gone. Assumes nothing.
-use mathlib.Core.Path.{_≡_, refl, ap}
+use mathlib.Core.Path.{_≡_, refl}
 use mathlib.Core.Bool.{Bool, true, false}
 use mathlib.Core.List.{List, [], _∷_}
-use mathlib.Core.Option.{Option, none, some}
+use mathlib.Core.Option.{Option, none}
 use Prim.Native.Nat.{ℕ, suc, _+_, _-_, _≤_}
 use native.Mathlib.Omega.{arith}
-use lib.Dec.{eqb, leb}
+use lib.Dec.{eqb}
 use lib.ListN.{length}
 use borrow.Author.Tests.{ne-eqb, eq-eqb, lt-leb}
 use Rattle.units.specs.declared.Ticks.{Ticks}
 use Rattle.rules.specs.Terms.{Terms}
 use Rattle.rules.specs.Line.{Packet}
 use Rattle.rules.specs.Extra.{span}
-use Rattle.rules.specs.Delay.{orElse, lastExtra, gap}
+use Rattle.rules.specs.Delay.{orElse, lastExtra}
 use Rattle.rules.proofs.Planned.{Planned, FirstFits, planned-shift}
 use Rattle.room.specs.Held.{Held}
 use Rattle.state.specs.declared.Extra.{Extra}

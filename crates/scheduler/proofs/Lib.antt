@@ -10,6 +10,7 @@ pub mod Heads
 pub mod Arrives
 pub mod Advances
 pub mod Follows
+pub mod OneMore
 pub mod Premise
 pub mod Public
 pub mod Unique

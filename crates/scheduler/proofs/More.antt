@@ -10,7 +10,7 @@ use lib.ListN.{length}
 use borrow.Author.Tests.{ne-eqb, eq-eqb}
 use Rattle.units.specs.declared.Ticks.{Ticks}
 use Rattle.rules.specs.Terms.{Terms}
-use Rattle.rules.specs.Line.{Packet, Waiting, packet, unmarkedOf, dueOf}
+use Rattle.rules.specs.Line.{Packet, Waiting, unmarkedOf, dueOf}
 use Rattle.rules.specs.Extra.{spans}
 use Rattle.rules.specs.Delay.{orElse, lastExtra}
 use Rattle.rules.proofs.Planned.{Planned}

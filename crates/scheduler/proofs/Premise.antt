@@ -1,9 +1,9 @@
 -- What the premise of a call gives: the line that scheduler and room stand for, and every bound that the arithmetic asks. Assumes nothing.
 use mathlib.Core.Path.{_≡_, refl, sym, ap, subst, _∙_}
-use mathlib.Core.Bool.{true, false, true≢false}
+use mathlib.Core.Bool.{true≢false}
 use mathlib.Core.List.{List, [], _∷_, _++_, map}
 use mathlib.Core.Option.{Option, none, some}
-use Prim.Native.Nat.{ℕ, suc, _+_, _*_, _-_, _≤_, _<_}
+use Prim.Native.Nat.{ℕ, _+_, _*_, _-_, _≤_, _<_}
 use native.Mathlib.Omega.{arith}
 use native.Mathlib.Nat.{mul-le-mul}
 use lib.ListN.{length, length-append}
@@ -13,7 +13,7 @@ use Rattle.units.specs.declared.Bytes.{Bytes}
 use Rattle.units.specs.declared.Instant.{Instant}
 use Rattle.units.specs.declared.Settings.{Settings}
 use Rattle.units.specs.declared.Marking.{Marking}
-use Rattle.units.specs.Limits.{instantMost, admissionsMost}
+use Rattle.units.specs.Limits.{instantMost}
 use Rattle.rules.specs.Terms.{Terms, termsOf}
 use Rattle.rules.specs.Line as rules
 use Rattle.rules.specs.Line.{Waiting, unmarked, marked, unmarkedOf, markedOf, due, fresh}
@@ -32,10 +32,10 @@ use Rattle.room.specs.Room.{Room}
 use Rattle.state.specs.declared.Scheduler.{Scheduler}
 use Rattle.state.specs.Counts.{admissionsOf, goneOf}
 use Rattle.state.specs.Bounds.{timesMost, Small}
-use Rattle.scheduler.specs.Calls.{headOf, timeOf, packetOf, sentOf, arrivalRefusal, firstPacket}
+use Rattle.scheduler.specs.Calls.{headOf, timeOf, packetOf, arrivalRefusal}
 use Rattle.scheduler.specs.Bounds.{Admits, HeadStarts, FirstStarts, Decides}
-use Rattle.scheduler.specs.Machine.{bytes, instant, schedulerAfter, roomAfter, FromOpening}
-use Rattle.scheduler.specs.Represents.{asPacket, Represents}
+use Rattle.scheduler.specs.Machine.{FromOpening}
+use Rattle.scheduler.specs.Represents.{Represents}
 use Rattle.scheduler.proofs.Tests.{Fit, all-admitted, ranks, arrival-tests-same}
 use Rattle.scheduler.proofs.Heads.{head-is, marked-sent, First, first-is}
 use Rattle.scheduler.proofs.Arrives.{passed}

@@ -1,10 +1,10 @@
 -- The three calls from their callees' promises: the result is the definition's, and the premise is kept. Assumes nothing.
-use mathlib.Core.Path.{_≡_, refl, sym, ap, subst, _∙_}
+use mathlib.Core.Path.{_≡_, refl, sym, ap, _∙_}
 use mathlib.Core.Bool.{Bool, true, false, not, true≢false}
-use mathlib.Core.List.{List, [], _∷_, _++_}
+use mathlib.Core.List.{[], _∷_, _++_}
 use Prim.Native.Nat.{ℕ, _≤_, _<_}
 use native.Mathlib.Omega.{arith}
-use lib.Dec.{eqb, ltb}
+use lib.Dec.{ltb}
 use borrow.Author.Tests.{eq-eqb, ne-eqb, lt-ltb, le-ltb, ltb-true, ltb-false}
 use Rattle.refusals.specs.First.{orElse, firstOf, numberOf}
 use Rattle.units.specs.declared.Bytes.{Bytes}
@@ -15,7 +15,6 @@ use Rattle.units.specs.Limits.{instantMost}
 use Rattle.rules.specs.Step.{Call, arrive, advance}
 use Rattle.room.specs.declared.Packet.{Packet}
 use Rattle.room.specs.Room.{Room, packetAt}
-use Rattle.room.specs.Held.{Sized}
 use Rattle.state.specs.declared.Tallies.{Tallies}
 use Rattle.state.specs.declared.Scheduler.{Scheduler}
 use Rattle.state.specs.Counts.{admissionsOf, goneOf, waitsOf, Counted}
@@ -30,22 +29,10 @@ use Rattle.scheduler.specs.declared.Advanced.{Advanced}
 use Rattle.scheduler.specs.declared.Opened.{Opened}
 use Rattle.scheduler.specs.Calls.{openOf, headOf, packetOf, admitOf, admitRoom, arrivalRefusal, arriveOf, arriveRoom, decideOf, advanceOf}
 use Rattle.scheduler.specs.Bounds.{Admits, Decides}
-use Rattle.scheduler.specs.Machine.{Made, made, schedulerAfter, roomAfter, FromOpening}
+use Rattle.scheduler.specs.Machine.{made, schedulerAfter, roomAfter, FromOpening}
 use Rattle.scheduler.specs.Promises.{Opens, Arrives, Advances}
+use Rattle.scheduler.proofs.OneMore.{scheduler-more, room-more}
 use Rattle.scheduler.proofs.Premise.{stands, small, admits, decides}
-
--- A call more.
-scheduler-more : (s : Scheduler) (r : Room) (cs : List Call) (c : Call)
-    → schedulerAfter s r (cs ++ c ∷ []) ≡ made (schedulerAfter s r cs) (roomAfter s r cs) c .scheduler
-unfolding schedulerAfter roomAfter
-scheduler-more s r [] c = refl
-scheduler-more s r (d ∷ cs) c = scheduler-more (made s r d .scheduler) (made s r d .room) cs c
-
-room-more : (s : Scheduler) (r : Room) (cs : List Call) (c : Call)
-    → roomAfter s r (cs ++ c ∷ []) ≡ made (schedulerAfter s r cs) (roomAfter s r cs) c .room
-unfolding schedulerAfter roomAfter
-room-more s r [] c = refl
-room-more s r (d ∷ cs) c = room-more (made s r d .scheduler) (made s r d .room) cs c
 
 -- OPEN gives the premise, and each call keeps it.
 pub opened : (settings : Settings) (x : Opened) → x ≡ openOf settings → Opens settings x

@@ -1,20 +1,20 @@
 -- A start: the scheduler and the room stand for the line that the decision leads to. Assumes nothing.
-use mathlib.Core.Path.{_≡_, refl, sym, ap, subst, _∙_}
+use mathlib.Core.Path.{_≡_, refl, ap, subst, _∙_}
 use mathlib.Core.Bool.{true}
-use mathlib.Core.List.{List, [], _∷_, _++_, map, map-append}
-use Prim.Native.Nat.{ℕ, suc, _+_, _-_, _≤_}
+use mathlib.Core.List.{List, _∷_, _++_, map, map-append}
+use Prim.Native.Nat.{ℕ, suc, _+_, _-_}
 use native.Mathlib.Omega.{arith}
 use native.Mathlib.Numerals.{add-one}
 use lib.Dec.{leb}
 use lib.ListN.{length, length-map}
 use Rattle.units.specs.declared.Ticks.{Ticks}
 use Rattle.units.specs.declared.Instant.{Instant}
-use Rattle.units.specs.declared.Marking.the-variants.{Unmarked, Marked}
-use Rattle.rules.specs.Terms.{Terms, termsOf}
+use Rattle.units.specs.declared.Marking.the-variants.{Unmarked}
+use Rattle.rules.specs.Terms.{Terms}
 use Rattle.rules.specs.Line as rules
-use Rattle.rules.specs.Line.{Waiting, unmarked, marked, packet, unmarkedOf, dueOf, due}
+use Rattle.rules.specs.Line.{Waiting, unmarked, marked, unmarkedOf, dueOf, due}
 use Rattle.rules.specs.Extra.{span, spans}
-use Rattle.rules.specs.Decide.{Decision, starting, fits}
+use Rattle.rules.specs.Decide.{starting, fits}
 use Rattle.rules.specs.Step.{decided}
 use Rattle.rules.proofs.Lists.{Each, each-behind, unmarked-behind}
 use Rattle.rules.proofs.Planned.{Planned, FirstFits, first-fits}
@@ -26,7 +26,7 @@ use Rattle.state.specs.declared.Scheduler.{Scheduler}
 use Rattle.state.specs.Counts.{goneOf, waitingOf}
 use Rattle.state.specs.Steps.{startedMarked, startedUnmarked}
 use Rattle.scheduler.specs.Machine.{instant}
-use Rattle.scheduler.specs.Represents.{asPacket, numberOf, Numbered, gapsFrom, FirstIs, IfAny, extraOn, Represents}
+use Rattle.scheduler.specs.Represents.{asPacket, numberOf, Numbered, gapsFrom, FirstIs, extraOn, Represents}
 use Rattle.scheduler.proofs.Queues.{numbered-behind}
 use Rattle.scheduler.proofs.Delays.{latest-passed}
 use Rattle.scheduler.proofs.Tests.{Fit, unmarked-waiting}

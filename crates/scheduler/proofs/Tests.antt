@@ -1,13 +1,10 @@
 -- On a scheduler that stands for a line, counts and refusals are the line's. Assumes nothing.
 use mathlib.Core.Path.{_≡_, refl, ap}
-use mathlib.Core.Bool.{Bool, true, false}
 use mathlib.Core.List.{List, [], _∷_, map}
-use Prim.Native.Nat.{ℕ, _+_, _≤_, max}
+use Prim.Native.Nat.{ℕ, _+_}
 use native.Mathlib.Omega.{arith}
 use lib.ListN.{length}
-use lib.Dec.{ltb, leb, eqb}
 use borrow.Author.Tests.{ne-eqb, eq-eqb}
-use Rattle.units.specs.declared.Instant.{Instant}
 use Rattle.units.specs.declared.Marking.{Marking}
 use Rattle.units.specs.declared.Marking.the-variants.{Unmarked, Marked}
 use Rattle.rules.specs.Terms.{Terms, termsOf}
@@ -22,8 +19,7 @@ use Rattle.room.specs.declared.Packet.{Packet}
 use Rattle.room.specs.Room.{Room, packetAt}
 use Rattle.room.specs.Held.{Held}
 use Rattle.state.specs.declared.Scheduler.{Scheduler}
-use Rattle.state.specs.Counts.{admissionsOf, goneOf, waitingOf, waitsOf}
-use Rattle.state.specs.Delays.{dueOf}
+use Rattle.state.specs.Counts.{admissionsOf, goneOf, waitingOf}
 use Rattle.state.specs.Refusals.{overdueOf, arrivalTests, advanceTests}
 use Rattle.scheduler.specs.Calls.{headOf}
 use Rattle.scheduler.specs.Machine.{bytes, instant}

@@ -1,6 +1,6 @@
 -- Each promise leaves one possible result. Assumes nothing.
-use mathlib.Core.Path.{_≡_, sym, _∙_}
-use Rattle.scheduler.specs.Promises.{Opens, Arrives, Advances, OneOpening, OneArrival, OneAdvance}
+use mathlib.Core.Path.{sym, _∙_}
+use Rattle.scheduler.specs.Promises.{OneOpening, OneArrival, OneAdvance}
 
 pub one-opening : OneOpening
 one-opening settings x y h k = h .value ∙ sym (k .value)

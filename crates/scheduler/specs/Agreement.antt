@@ -1,7 +1,6 @@
 -- The code gives the rules' answers. Assumes nothing.
 use mathlib.Core.Path.{_≡_}
 use mathlib.Core.List.{List, map}
-use Prim.Native.Nat.{ℕ}
 use Rattle.units.specs.declared.Settings.{Settings}
 use Rattle.rules.specs.Terms.{Terms, termsOf}
 use Rattle.rules.specs.Line.{fresh}

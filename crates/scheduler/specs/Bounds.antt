@@ -1,7 +1,7 @@
 -- What the arithmetic of an admission and of a start asks of the numbers. Assumes nothing.
 use mathlib.Core.Path.{_≡_}
-use mathlib.Core.Bool.{Bool, true, false}
-use Prim.Native.Nat.{ℕ, _+_, _≤_, _<_}
+use mathlib.Core.Bool.{true, false}
+use Prim.Native.Nat.{_+_, _≤_, _<_}
 use Rattle.units.specs.declared.Instant.{Instant}
 use Rattle.units.specs.Limits.{instantMost, admissionsMost}
 use Rattle.room.specs.declared.Packet.{Packet}
@@ -11,17 +11,20 @@ use Rattle.state.specs.Counts.{admissionsOf, goneOf}
 use Rattle.state.specs.Bounds.{timesMost, Small}
 use Rattle.scheduler.specs.Calls.{timeOf, sentOf, firstNumber, firstPacket, aheadCount}
 
+-- Of a packet that no test refuses.
 pub record Admits (s : Scheduler) (p : Packet) : Type 0 where
   pub small : Small s
   pub numbers : admissionsOf (s .tallies) < admissionsMost
   pub time : timeOf s p .0 ≤ timesMost
 
+-- Of a start of the packet at the head.
 pub record HeadStarts (s : Scheduler) (head : Packet) (due : Instant) : Type 0 where
   pub small : Small s
   pub waits : goneOf (s .tallies) < admissionsMost
   pub soon : due .0 ≤ instantMost
   pub time : timeOf s head .0 ≤ timesMost
 
+-- Of a start of the first waiting unmarked packet.
 pub record FirstStarts (s : Scheduler) (r : Room) (due : Instant) : Type 0 where
   pub small : Small s
   pub waits : s .tallies .started .unmarked < admissionsMost
@@ -30,6 +33,7 @@ pub record FirstStarts (s : Scheduler) (r : Room) (due : Instant) : Type 0 where
   pub soon : due .0 ≤ instantMost
   pub time : timeOf s (firstPacket s r) .0 ≤ timesMost
 
+-- Of a decision, whichever of the two it starts.
 pub record Decides (s : Scheduler) (r : Room) (head : Packet) (due : Instant) : Type 0 where
   pub small : Small s
   pub time : timeOf s head .0 ≤ timesMost

@@ -1,7 +1,7 @@
 -- Lists of calls on the code: a scheduler with its room, and what each call gives. Assumes nothing.
 use mathlib.Core.Path.{_≡_}
 use mathlib.Core.List.{List, [], _∷_}
-use mathlib.Core.Option.{Option, none, some}
+use mathlib.Core.Option.{Option, none}
 use Prim.Native.Nat.{ℕ}
 use Rattle.units.specs.declared.Bytes.{Bytes}
 use Rattle.units.specs.declared.Instant.{Instant}
@@ -21,6 +21,7 @@ pub record Made : Type 0 where
   pub values : List ℕ
   pub packet : Option Packet
 
+-- A call's numbers as the code has them.
 abbrev pub bytes : ℕ → Bytes
 bytes n = record { 0 = n }
 

@@ -6,7 +6,6 @@ use Rattle.room.specs.declared.Packet.{Packet}
 use Rattle.state.specs.declared.Tallies.{Tallies}
 use Rattle.scheduler.specs.declared.Opening.{Opening}
 use Rattle.scheduler.specs.declared.Admission.{Admission}
-use Rattle.scheduler.specs.declared.Start.{Start}
 use Rattle.scheduler.specs.declared.Decision.{Decision}
 use Rattle.scheduler.specs.declared.Outcome.{Outcome}
 

@@ -17,6 +17,7 @@ use units::Marking;
 use units::Settings;
 use units::Ticks;
 
+// The answer to an opening. A refusal bears document 01's number, here and below.
 pub enum Opening {
     Ready,
     Refused(u8),
@@ -27,6 +28,7 @@ pub struct Opened {
     pub scheduler: Scheduler,
 }
 
+// The answer to an arrival: the packet's number and, if it is unmarked, its extra delay.
 pub enum Admission {
     Unmarked { number: u32, extra: Ticks },
     Marked { number: u32 },
@@ -47,11 +49,13 @@ pub struct Start {
     pub packet: Packet,
 }
 
+// What an accepted advance finds.
 pub enum Decision {
     Started(Start),
     NothingDue,
 }
 
+// The answer to an advance: refusals stand apart, so that a decision is taken apart by itself.
 pub enum Outcome {
     Decided(Decision),
     Refused(u8),
@@ -83,7 +87,7 @@ pub fn open(settings: Settings) -> Opened
     }
 }
 
-// Enters an unmarked packet in the difference queue.
+// An unmarked packet is admitted: it is entered in the difference queue.
 fn admit_unmarked(
     scheduler: Scheduler,
     packet: Packet,
@@ -113,6 +117,7 @@ fn admit_unmarked(
     }
 }
 
+// A marked packet is admitted.
 fn admit_marked(scheduler: Scheduler, packet: Packet) -> Arrived
     requires { ⌜ Admits scheduler packet ⌝ }
     ensures { λ r. ⌜ r ≡ admitMarked scheduler packet ⌝ }
@@ -228,7 +233,7 @@ fn start_head(scheduler: Scheduler, head: Packet, due: Instant, at: Instant) -> 
     }
 }
 
-// The first waiting unmarked packet starts, and those ahead of it are dropped.
+// The first waiting unmarked packet starts, and those ahead of it are dropped: its number tells how many, so none of them is visited.
 fn start_first(
     scheduler: Scheduler,
     due: Instant,

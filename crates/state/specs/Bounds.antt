@@ -9,6 +9,7 @@ use Rattle.state.specs.Counts.{Counted}
 abbrev pub timesMost : ℕ
 timesMost = waitingMost * timeMost
 
+-- What every sum on the way relies on.
 pub record Small (s : Scheduler) : Type 0 where
   pub counted : Counted (s .tallies)
   pub free : s .line .free .0 ≤ instantMost + timesMost

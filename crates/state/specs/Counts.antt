@@ -1,5 +1,5 @@
 -- What the five tallies tell: how many were admitted, how many are gone, how many of each marking wait. Assumes nothing.
-use mathlib.Core.Bool.{Bool, true, false, not}
+use mathlib.Core.Bool.{Bool, not}
 use Prim.Native.Nat.{ℕ, _+_, _-_, _≤_}
 use lib.Dec.{eqb}
 use Rattle.units.specs.declared.Marking.{Marking}
@@ -7,6 +7,7 @@ use Rattle.units.specs.declared.Marking.the-variants.{Unmarked, Marked}
 use Rattle.units.specs.Limits.{admissionsMost}
 use Rattle.state.specs.declared.Tallies.{Tallies}
 
+-- Admitted since opening.
 abbrev pub admissionsOf : Tallies → ℕ
 admissionsOf t = t .admitted .unmarked + t .admitted .marked
 
@@ -14,6 +15,7 @@ admissionsOf t = t .admitted .unmarked + t .admitted .marked
 abbrev pub goneOf : Tallies → ℕ
 goneOf t = t .started .unmarked + t .started .marked + t .dropped
 
+-- Admitted and neither started nor dropped.
 abbrev pub waitingOf : Marking → Tallies → ℕ
 waitingOf Unmarked t = t .admitted .unmarked - t .started .unmarked
 waitingOf Marked t = t .admitted .marked - (t .started .marked + t .dropped)

@@ -11,10 +11,12 @@ use Rattle.units.specs.declared.Marking.the-variants.{Unmarked, Marked}
 use Rattle.state.specs.declared.Line.{Line}
 use Rattle.state.specs.declared.Extra.{Extra}
 
+-- One of two values, by a test.
 abbrev pub pick : {A : Type 0} → Bool → A → A → A
 pick true a b = a
 pick false a b = b
 
+-- The marking as a test.
 abbrev pub isUnmarked : Marking → Bool
 isUnmarked Unmarked = true
 isUnmarked Marked = false

@@ -1,7 +1,6 @@
 -- The refusals of an arrival and of an advance, in document 01's order. Assumes nothing.
 use mathlib.Core.Bool.{Bool, _&&_, not}
 use mathlib.Core.List.{List, [], _∷_}
-use Prim.Native.Nat.{ℕ, max}
 use lib.Dec.{leb, ltb}
 use Rattle.refusals.specs.First.{Test}
 use Rattle.units.specs.declared.Bytes.{Bytes}
@@ -18,6 +17,7 @@ use Rattle.state.specs.Delays.{dueOf}
 abbrev pub overdueOf : Scheduler → (arrival at : Instant) → Bool
 overdueOf s arrival at = waitsOf (s .tallies) && ltb (dueOf (s .line) arrival .0) (at .0)
 
+-- Refusals 1 to 7.
 abbrev pub arrivalTests : Scheduler → (arrival : Instant) → Marking → Bytes → (at : Instant) → List Test
 arrivalTests s arrival μ len at =
     record { number = 1; holds = not (lengthInRange (len .0)) }
@@ -29,6 +29,7 @@ arrivalTests s arrival μ len at =
     ∷ record { number = 7; holds = leb admissionsMost (admissionsOf (s .tallies)) }
     ∷ []
 
+-- Refusals 2 and 3.
 abbrev pub advanceTests : (clock at : Instant) → List Test
 advanceTests clock at =
     record { number = 2; holds = ltb instantMost (at .0) } ∷ record { number = 3; holds = ltb (at .0) (clock .0) } ∷ []

@@ -1,4 +1,4 @@
-// The scheduler's own numbers, and what each step makes of them; the packets stand in the room. For the crate `scheduler` only.
+// The scheduler's own numbers, and what each step makes of them. The functions serve the crate `scheduler` only.
 ghost use mathlib.Core.Path.{_≡_};
 ghost use Prim.Native.Nat.{_+_, _-_, _≤_, _<_, min, max};
 ghost use Rattle.refusals.specs.First.{firstOf, numberOf};
@@ -36,12 +36,14 @@ pub struct Each {
     pub marked: u32,
 }
 
+// The five tallies, from which every other count follows.
 pub struct Tallies {
     pub admitted: Each,
     pub started: Each,
     pub dropped: u32,
 }
 
+// The scheduler, small and by value; the packets stand in the room.
 pub struct Scheduler {
     pub settings: Settings,
     pub clock: Instant,
@@ -55,12 +57,14 @@ pub const WAITING_MOST: u32 = 64;
 
 pub const ADMISSIONS_MOST: u32 = 4_294_967_295;
 
+// The later of two instants, as numbers.
 fn larger(a: u64, b: u64) -> u64
     ensures { λ r. ⌜ r ≡ max a b ⌝ }
 {
     if a <= b { b } else { a }
 }
 
+// The smaller of two spans, as numbers.
 fn smaller(a: u64, b: u64) -> u64
     ensures { λ r. ⌜ r ≡ min a b ⌝ }
 {
@@ -116,6 +120,7 @@ pub fn due(line: Line, arrival: Instant) -> Instant
     Instant(larger(line.free.0, arrival.0))
 }
 
+// Whether a decision is due strictly before this instant.
 fn overdue(scheduler: Scheduler, arrival: Instant, at: Instant) -> bool
     requires { ⌜ Counted (scheduler .tallies) ⌝ }
     ensures { λ r. ⌜ r ≡ overdueOf scheduler arrival at ⌝ }
@@ -127,6 +132,7 @@ fn overdue(scheduler: Scheduler, arrival: Instant, at: Instant) -> bool
     false
 }
 
+// Whether a marked packet's transmission time is above alpha.
 fn too_long(settings: Settings, marking: Marking, length: Bytes) -> bool
     ensures { λ r. ⌜ r ≡ outlasts (termsOf settings) marking (length .0) ⌝ }
 {
@@ -323,6 +329,7 @@ pub fn idle(scheduler: Scheduler, at: Instant) -> Scheduler
     next
 }
 
+// A marked packet is admitted at this instant.
 pub fn admit_marked(scheduler: Scheduler, at: Instant) -> Scheduler
     requires { ⌜ scheduler .tallies .admitted .marked < admissionsMost ⌝ }
     ensures { λ r. ⌜ r ≡ admittedMarked scheduler at ⌝ }
@@ -334,6 +341,7 @@ pub fn admit_marked(scheduler: Scheduler, at: Instant) -> Scheduler
     next
 }
 
+// An unmarked packet is admitted, with its transmission time and its own extra delay.
 pub fn admit_unmarked(scheduler: Scheduler, time: Ticks, own: Ticks, at: Instant) -> Scheduler
     requires { ⌜ Small scheduler × (scheduler .tallies .admitted .unmarked < admissionsMost) × (time .0 ≤ timesMost) ⌝ }
     ensures { λ r. ⌜ r ≡ admittedUnmarked scheduler time own at ⌝ }
@@ -348,6 +356,7 @@ pub fn admit_unmarked(scheduler: Scheduler, time: Ticks, own: Ticks, at: Instant
     next
 }
 
+// A marked packet starts at the due instant; the clock is at `at`.
 pub fn start_marked(scheduler: Scheduler, due: Instant, time: Ticks, at: Instant) -> Scheduler
     requires { ⌜ Small scheduler × (scheduler .tallies .started .marked < admissionsMost) × (due .0 ≤ instantMost) × (time .0 ≤ timesMost) ⌝ }
     ensures { λ r. ⌜ r ≡ startedMarked scheduler due time at ⌝ }
@@ -367,6 +376,7 @@ pub fn start_marked(scheduler: Scheduler, due: Instant, time: Ticks, at: Instant
     next
 }
 
+// The first waiting unmarked packet starts at the due instant, with so many dropped ahead of it; the clock is at `at`.
 pub fn start_unmarked(
     scheduler: Scheduler,
     due: Instant,

@@ -1,5 +1,5 @@
 -- `state::follows` meets its contract: each return follows from its test and the marking. Assumes nothing.
-use borrow.Author.Tests.{eq-eqb, ne-eqb}
+use borrow.Author.Tests.{eq-eqb}
 use borrow.Author.Needs.{needs}
 use Rattle.units.proofs.Cases.{tests}
 use Rattle.state.proofs.follows.Statement.{statement}

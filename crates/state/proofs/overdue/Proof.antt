@@ -1,6 +1,5 @@
 -- `state::overdue` meets its contract: each return follows from what `waits` and `due` give. Assumes nothing.
 use borrow.Author.Needs.{needs}
-use Rattle.units.proofs.Cases.{tests}
 use Rattle.state.proofs.overdue.Statement.{statement}
 use Rattle.state.proofs.overdue.Tie as tie
 

@@ -1,6 +1,5 @@
 -- `state::own_delay` meets its contract: each return follows from what `follows`, `less` and `smaller` give. Assumes nothing.
 use borrow.Author.Needs.{needs}
-use Rattle.units.proofs.Cases.{tests}
 use Rattle.state.proofs.own_delay.Statement.{statement}
 use Rattle.state.proofs.own_delay.Tie as tie
 

@@ -1,7 +1,6 @@
 -- `state::passed` meets its contract: each return follows from its test and what `less` gives. Assumes nothing.
 use borrow.Author.Tests.{le-leb, lt-leb}
 use borrow.Author.Needs.{needs}
-use Rattle.units.proofs.Cases.{tests}
 use Rattle.state.proofs.passed.Statement.{statement}
 use Rattle.state.proofs.passed.Tie as tie
 

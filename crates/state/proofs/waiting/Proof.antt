@@ -1,6 +1,5 @@
 -- `state::waiting` meets its contract: each marking has its count. Assumes nothing.
 use borrow.Author.Needs.{needs}
-use Rattle.units.proofs.Cases.{tests}
 use Rattle.state.proofs.waiting.Statement.{statement}
 use Rattle.state.proofs.waiting.Tie as tie
 

@@ -1,6 +1,5 @@
 -- `state::waits` meets its contract: it is the definition, with what `gone` and `admissions` give. Assumes nothing.
 use borrow.Author.Needs.{needs}
-use Rattle.units.proofs.Cases.{tests}
 use Rattle.state.proofs.waits.Statement.{statement}
 use Rattle.state.proofs.waits.Tie as tie
 

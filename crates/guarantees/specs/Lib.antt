@@ -1,0 +1,4 @@
+pub mod Lines
+pub mod Demands
+pub mod Account
+pub mod Queue
