@@ -7,7 +7,7 @@ use native.Mathlib.Nat.{add-zero, add-suc, add-assoc, mul-assoc, add-mul, mul-on
 use lib.Arith.{mod-mul, digits-div, digits-mod, digits-lt}
 use lib.ListN.{length, getD, take, drop, length-append, length-drop, List·getD-append}
 use lib.Seq.{sets, take-suc, getD-drop, getD-take, getD-at, getD-append-add}
-use Rattle.lists.proofs.Stores.{Stored, stored, stored-more}
+use Rattle.lists.proofs.Stores.{stored, stored-more}
 use Rattle.octets.specs.Octets.{Octets, numberAt, octetsOf}
 
 -- n bytes and then m bytes: the first number scaled by 256 ^ m, and the second.

@@ -1,13 +1,11 @@
 -- There and back for every table of fields: what was spelled is read, and what was read is spelled. Assumes nothing.
-use mathlib.Core.Path.{_≡_, refl, sym, ap, _∙_}
+use mathlib.Core.Path.{_≡_, refl, _∙_}
 use mathlib.Core.List.{List, [], _∷_, _++_, append-assoc}
-use Prim.Native.Nat.{ℕ, zero, suc, _+_, _^_, _≤_, _<_}
+use Prim.Native.Nat.{ℕ, _+_, _≤_}
 use native.Mathlib.Omega.{arith}
-use native.Mathlib.Nat.{add-assoc}
-use lib.ListN.{length, getD, take, drop, length-append}
-use lib.Seq.{take-add, drop-drop, getD-drop, getD-take}
-use mathlib.Core.Logic.{⊎-elim}
-use Rattle.octets.specs.Octets.{Octets, Field, numberAt, octetsOf, spelled, size, Roomy, Stands}
+use lib.ListN.{length, take, drop, length-append}
+use lib.Seq.{take-add, drop-drop}
+use Rattle.octets.specs.Octets.{Octets, Field, octetsOf, spelled, size, Roomy, Stands}
 use Rattle.octets.proofs.Laws.{length-octets, number-octets, number-after, octets-number}
 
 pub length-spelled : (fs : List Field) → length (spelled fs) ≡ size fs
