@@ -175,6 +175,9 @@ static void measure_advances(void)
 
 int main(void)
 {
+    printf("image of at most %zu bytes, answer area of %zu, both warm; "
+           "medians of %d turns of %d calls\n",
+           sizeof image, sizeof answer, TURNS, CALLS_PER_TURN);
     printf("%-44s %-9s %9s %9s %7s\n", "", "", "archive", "baseline", "ratio");
     measure_whole_run("whole run, three drops at each start", 60, 1);
     measure_whole_run("whole run, no drops", 10, 4);

@@ -309,8 +309,10 @@ static void hold_image_cases(void)
             apply(&image_cases[i].changes[1]);
         hold_written(image_cases[i].text, length, image_cases[i].text);
     }
-    static const size_t lengths[] = { 0, 1, 2, 511, 513, 1023, 1535, 65 * BLOCK_BYTES,
-                                      66 * BLOCK_BYTES, 64 * BLOCK_BYTES + 1 };
+    static const size_t lengths[] = { 0, 1, 2, 511, 513, 1023, 1535, 64 * BLOCK_BYTES + 1,
+                                      65 * BLOCK_BYTES, 128 * BLOCK_BYTES, 129 * BLOCK_BYTES,
+                                      256 * BLOCK_BYTES, 257 * BLOCK_BYTES };
+    memset(image, 0, sizeof image);
     three_blocks();
     for (size_t i = 0; i < sizeof lengths / sizeof lengths[0]; i++)
         hold_written("image length", lengths[i], "X 11 0\n");

@@ -4,8 +4,8 @@
 
 #include "trace.h"
 
-/* Room for a few blocks more than a reader takes. */
-enum { IMAGE_ROOM = (MOST_BLOCKS + 4) * BLOCK_BYTES };
+/* Room for far more blocks than a reader takes, so that a length cut to 8 or 16 bits shows. */
+enum { IMAGE_ROOM = 260 * BLOCK_BYTES };
 
 /* Gives the image's length. */
 size_t image_of(const struct trace *trace, uint8_t *image);

@@ -55,7 +55,7 @@ find_archive() {
         for part in standin baseline; do
             # shellcheck disable=SC2086
             "$CC" $c_flags -c "peer/$part.c" -o "target/compare/$part.o"
-            ar rc "$archive" "target/compare/$part.o"
+            "$("$CC" -print-prog-name=ar)" rc "$archive" "target/compare/$part.o"
         done
     fi
     [ -f "$archive" ] || missing "the archive $archive (rt staticlib run), or say 'none'"
