@@ -79,7 +79,7 @@ int main(int count, char **words)
         return 2;
     }
     hold_begin();
-    hold_wrong_texts();
+    hold_trace_texts();
     hold_cases();
     for (uint64_t index = 0; index < images; index++)
         compare_one(index, seed);

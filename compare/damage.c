@@ -1,4 +1,4 @@
-/* Changes images by bits, fields, bytes and blocks; all but the last kinds start from a valid one. */
+/* Changes valid images by bits, fields, bytes and blocks, or puts random bytes in their place. */
 #include "damage.h"
 
 #include <string.h>

@@ -47,7 +47,7 @@ static struct room answer_room;
 static unsigned long long calls[PROGRAMS];
 static unsigned long long images_held;
 
-static const char *now_what = "";
+static const char *now_what = "none";
 static const uint8_t *now_image;
 static size_t now_length;
 
@@ -59,7 +59,7 @@ static bool save(const char *name, const uint8_t *bytes, size_t length)
 
 _Noreturn void hold_failed(const char *why)
 {
-    printf("DIFFERENCE in %s: %s\n", now_what, why);
+    printf("DIFFERENCE: %s\nlast image: %s\n", why, now_what);
     if (now_image != NULL && save(IMAGE_FILE, now_image, now_length))
         printf("image of %zu bytes saved to %s\n", now_length, IMAGE_FILE);
     exit(1);
@@ -128,7 +128,7 @@ static _Noreturn void texts_differ(const struct program *program, const struct t
     show_first_difference(wanted, given);
     show_text("wanted", "difference.wanted.text", wanted);
     show_text(program->name, program->text_file, given);
-    hold_failed("the texts above");
+    hold_failed("the texts shown above");
 }
 
 static _Noreturn void broke_rule(const struct program *program, size_t area, int64_t result,
@@ -136,7 +136,7 @@ static _Noreturn void broke_rule(const struct program *program, size_t area, int
 {
     printf("%s, lent an answer area of %zu bytes, gave %lld: %s\n", program->name, area,
            (long long)result, rule);
-    hold_failed("a lent area");
+    hold_failed("what was done with a lent area");
 }
 
 /* Odd and even calls are lent areas at the two ends of their rooms. */

@@ -76,7 +76,7 @@ static void hold_too_many_events(void)
         hold_failed("trace text: the 1985th event is taken");
 }
 
-void hold_wrong_texts(void)
+static void hold_wrong_texts(void)
 {
     size_t count = sizeof wrong_texts / sizeof wrong_texts[0];
     for (size_t i = 0; i < count; i++) {
@@ -91,4 +91,34 @@ void hold_wrong_texts(void)
     }
     hold_too_many_events();
     printf("%12zu  wrong trace texts refused in the right line\n", count + 1);
+}
+
+/* The first is how the tool itself writes the trace. */
+static const char *const same_trace[] = {
+    SETTINGS "u50@0\nm60@7 place 9\na50\n",
+    SETTINGS "u50@0\nm60@7 place 9\na50",
+    "# a comment\n\n  alpha\t100  ticks 1   # more\n\nu50@0#\n\tm60@7  place\t9\n \na50 \n#",
+    "alpha 100 ticks 1\r\nu50@0\r\nm60@7 place 9\r\na50\r\n",
+    "alpha 00100 ticks 01\nu050@00 place 0\nm60@07 place 09\na50\n",
+};
+
+static void hold_same_texts(void)
+{
+    char text[256];
+    size_t count = sizeof same_trace / sizeof same_trace[0];
+    for (size_t i = 0; i < count; i++) {
+        struct trace_error error = trace_from_text(same_trace[i], strlen(same_trace[i]), &again);
+        if (error.word != NULL || trace_to_text(&again, text) != strlen(same_trace[0])
+            || memcmp(text, same_trace[0], strlen(same_trace[0])) != 0) {
+            printf("%s\n", same_trace[i]);
+            hold_failed("trace text: a text is not taken as it should be");
+        }
+    }
+    printf("%12zu  ways to write one trace text\n", count);
+}
+
+void hold_trace_texts(void)
+{
+    hold_wrong_texts();
+    hold_same_texts();
 }
