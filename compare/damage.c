@@ -11,6 +11,7 @@ const char *const damage_names[DAMAGES] = {
     [WRONG_CHECK] = "check replaced",
     [CHECK_ZERO] = "check made 0000 by a place",
     [ONES_FOR_ZERO] = "ffff put for a check of 0000",
+    [SEVERAL] = "two or three of the above",
     [CUT_BYTES] = "cut to any length",
     [CUT_BLOCKS] = "cut by whole blocks",
     [LONGER_BY_BYTES] = "lengthened by some bytes",
@@ -107,7 +108,8 @@ static void set_unused_byte(struct random *random, uint8_t *last)
         last[3]--;
         memset(last + BLOCK_BYTES - RECORD_BYTES, 0, RECORD_BYTES);
     }
-    unsigned unused = HEADER_BYTES + RECORD_BYTES * last[3];
+    unsigned used = last[3] < RECORDS_PER_BLOCK ? last[3] : RECORDS_PER_BLOCK - 1;
+    unsigned unused = HEADER_BYTES + RECORD_BYTES * used;
     const unsigned places[] = { unused, BLOCK_BYTES - 1,
                                 (unsigned)random_between(random, unused, BLOCK_BYTES - 1) };
     last[places[random_below(random, 3)]] = (uint8_t)random_between(random, 1, 255);
@@ -125,7 +127,7 @@ static void replace_check(struct random *random, uint8_t *block)
 static void make_check_zero(uint8_t *block)
 {
     uint8_t *record = block + HEADER_BYTES;
-    for (unsigned i = 0; i < block[3]; i++, record += RECORD_BYTES) {
+    for (unsigned i = 0; i < block[3] && i < RECORDS_PER_BLOCK; i++, record += RECORD_BYTES) {
         if (record[0] == ADVANCE)
             continue;
         image_put(record + 6, 2, 0);
@@ -142,11 +144,12 @@ static void put_ones_for_zero(uint8_t *block)
         image_put(block, 2, 0xffff);
 }
 
+/* Adds copies of the first block, numbered on; at times far more than a reader takes. */
 static size_t lengthen(struct random *random, uint8_t *image, size_t length)
 {
-    size_t more = random_between(random, 1, 4) * BLOCK_BYTES;
-    size_t blocks = random_percent(random, 10) ? MOST_BLOCKS : length / BLOCK_BYTES;
-    size_t longer = blocks * BLOCK_BYTES + more;
+    size_t longer = length + random_between(random, 1, 4) * BLOCK_BYTES;
+    if (random_percent(random, 10))
+        longer = random_between(random, MOST_BLOCKS + 1, IMAGE_ROOM / BLOCK_BYTES) * BLOCK_BYTES;
     for (size_t at = length; at < longer; at += BLOCK_BYTES) {
         memcpy(image + at, image, BLOCK_BYTES);
         image_put(image + at + 4, 4, at / BLOCK_BYTES);
@@ -199,6 +202,12 @@ static void blank(struct random *random, uint8_t *block)
         image_put(block, 2, 0xffff);
 }
 
+static void damage_again(struct random *random, uint8_t *image, size_t length)
+{
+    for (uint64_t left = random_between(random, 2, 3); left > 0; left--)
+        damage_image((enum damage)random_below(random, SEVERAL), random, image, length);
+}
+
 size_t damage_image(enum damage damage, struct random *random, uint8_t *image, size_t length)
 {
     uint8_t *block = pick_block(random, image, length);
@@ -225,6 +234,9 @@ size_t damage_image(enum damage damage, struct random *random, uint8_t *image, s
         return length;
     case ONES_FOR_ZERO:
         put_ones_for_zero(block);
+        return length;
+    case SEVERAL:
+        damage_again(random, image, length);
         return length;
     case CUT_BYTES:
         return random_below(random, length);

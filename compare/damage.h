@@ -13,6 +13,7 @@ enum damage {
     WRONG_CHECK,
     CHECK_ZERO,                 /* no damage: a check that comes to 0000 */
     ONES_FOR_ZERO,
+    SEVERAL,                    /* some of the above, one after another */
     CUT_BYTES,
     CUT_BLOCKS,
     LONGER_BY_BYTES,
