@@ -1,0 +1,189 @@
+/* Measures the archive against the baseline, by ratios from one run.
+ *
+ * Both are called by turns on the same image and area, which one untimed call has
+ * warmed; a figure is the median of many such turns.  The image has at most 32,768
+ * bytes and the area BILGETHRUM_ANSWER_ENOUGH. */
+#define _POSIX_C_SOURCE 200809L
+#include <inttypes.h>
+#include <stdio.h>
+#include <stdlib.h>
+#include <string.h>
+#include <time.h>
+
+#include "baseline.h"
+#include "bilgethrum.h"
+#include "trace_text.h"
+
+enum { TURNS = 401, CALLS_PER_TURN = 8 };
+
+typedef int64_t run_function(const uint8_t *, size_t, uint8_t *, size_t);
+
+/* Nanoseconds of one call. */
+struct cost {
+    double archive;
+    double baseline;
+};
+
+static struct trace trace;
+static uint8_t image[MOST_BLOCKS * BLOCK_BYTES];
+static uint8_t answer[BILGETHRUM_ANSWER_ENOUGH];
+
+static double nanoseconds(void)
+{
+    struct timespec now;
+    clock_gettime(CLOCK_MONOTONIC, &now);
+    return 1e9 * (double)now.tv_sec + (double)now.tv_nsec;
+}
+
+static double time_of(run_function *run, size_t length)
+{
+    double begin = nanoseconds();
+    for (int i = 0; i < CALLS_PER_TURN; i++)
+        run(image, length, answer, sizeof answer);
+    return (nanoseconds() - begin) / CALLS_PER_TURN;
+}
+
+static int by_size(const void *one, const void *other)
+{
+    double difference = *(const double *)one - *(const double *)other;
+    return (difference > 0) - (difference < 0);
+}
+
+static double median(double *times)
+{
+    qsort(times, TURNS, sizeof *times, by_size);
+    return times[TURNS / 2];
+}
+
+/* A ratio of two programs that do different work would say nothing. */
+static void demand_same_text(size_t length)
+{
+    static uint8_t other[BILGETHRUM_ANSWER_ENOUGH];
+    int64_t one = bilgethrum_run(image, length, answer, sizeof answer);
+    int64_t two = baseline_run(image, length, other, sizeof other);
+    if (one < 0 || one != two || memcmp(answer, other, (size_t)one) != 0) {
+        fprintf(stderr, "benchmark: archive and baseline give different texts\n");
+        exit(1);
+    }
+}
+
+static struct cost measure(size_t length)
+{
+    static double archive[TURNS], baseline[TURNS];
+    demand_same_text(length);
+    for (int turn = 0; turn < TURNS; turn++) {
+        archive[turn] = time_of(bilgethrum_run, length);
+        baseline[turn] = time_of(baseline_run, length);
+    }
+    return (struct cost){ median(archive), median(baseline) };
+}
+
+static void print_row(const char *what, const char *unit, struct cost cost, double units)
+{
+    printf("%-44s %-9s %9.2f %9.2f %7.2f\n", what, unit, cost.archive / units,
+           cost.baseline / units, cost.archive / cost.baseline);
+}
+
+static void begin_trace(uint64_t alpha, uint64_t ticks_per_byte)
+{
+    trace.alpha = alpha;
+    trace.ticks_per_byte = ticks_per_byte;
+    trace.count = 0;
+}
+
+/* Events past the most that a trace may have are left out. */
+static void append(enum kind kind, uint64_t length, uint64_t instant)
+{
+    if (trace.count < MOST_EVENTS)
+        trace.events[trace.count++] =
+            (struct event){ .kind = kind, .length = length, .instant = instant };
+}
+
+/* By turns: a marked packet on the line, three marked ones and an unmarked one behind
+ * it, then the starts.  With length 60 all three are dropped, with length 10 none. */
+static void measure_whole_run(const char *what, uint64_t marked_length, int starts)
+{
+    begin_trace(100, 1);
+    for (uint64_t begin = 0; trace.count < MOST_EVENTS; begin += 200) {
+        append(MARKED, 100, begin);
+        append(ADVANCE, 0, begin);
+        for (uint64_t i = 0; i < 3; i++)
+            append(MARKED, marked_length, begin + 10 * i);
+        append(UNMARKED, 20, begin + 30);
+        for (int i = 0; i < starts; i++)
+            append(ADVANCE, 0, begin + 199);
+    }
+    print_row(what, "ns/event", measure(trace_to_image(&trace, image)), (double)trace.count);
+}
+
+/* Fills the queue with this many, half of each marking, then lets one start and one
+ * arrive by turns.  All extra delays and most starts have equally many digits,
+ * whatever waits, so that only the number waiting makes a difference. */
+static struct cost measure_waiting(uint64_t waiting)
+{
+    enum { UNMARKED_TIME = 2048 * 64, MARKED_TIME = 64, TURNED_EVENTS = 1800 };
+    begin_trace(MOST_ALPHA, 64);
+    append(MARKED, 2048, 0);
+    append(ADVANCE, 0, 0);
+    for (uint64_t i = 0; i < waiting; i++)
+        append(i % 2 == 0 ? UNMARKED : MARKED, i % 2 == 0 ? 2048 : 1, 0);
+    struct cost filled = measure(trace_to_image(&trace, image));
+    uint64_t due = UNMARKED_TIME;
+    for (int i = 0; i < TURNED_EVENTS / 2; i++) {
+        append(ADVANCE, 0, due);
+        append(i % 2 == 0 ? UNMARKED : MARKED, i % 2 == 0 ? 2048 : 1, due);
+        due += i % 2 == 0 ? UNMARKED_TIME : MARKED_TIME;
+    }
+    struct cost whole = measure(trace_to_image(&trace, image));
+    return (struct cost){ (whole.archive - filled.archive) / TURNED_EVENTS,
+                          (whole.baseline - filled.baseline) / TURNED_EVENTS };
+}
+
+static void measure_per_event(void)
+{
+    struct cost few = measure_waiting(2);
+    struct cost half = measure_waiting(64);
+    struct cost full = measure_waiting(128);
+    print_row("one event, 1 or 2 waiting", "ns/event", few, 1);
+    print_row("one event, 64 waiting", "ns/event", half, 1);
+    print_row("one event, 128 waiting", "ns/event", full, 1);
+    printf("%-44s %-9s %9.2f %9.2f\n", "  64 waiting to 1 or 2", "ratio",
+           half.archive / few.archive, half.baseline / few.baseline);
+    printf("%-44s %-9s %9.2f %9.2f\n", "  128 waiting to 1 or 2", "ratio",
+           full.archive / few.archive, full.baseline / few.baseline);
+}
+
+/* 64 blocks of records of one kind, nothing run: byte at of the last block is spoiled. */
+static void measure_blocks(const char *what, enum kind kind, size_t at)
+{
+    begin_trace(100, 1);
+    while (trace.count < MOST_EVENTS)
+        append(kind, kind == ADVANCE ? 0 : 50, trace.count);
+    size_t length = trace_to_image(&trace, image);
+    image[length - BLOCK_BYTES + at] ^= 1;
+    print_row(what, "ns/byte", measure(length), (double)length);
+}
+
+static void measure_advances(void)
+{
+    begin_trace(100, 1);
+    while (trace.count < MOST_EVENTS)
+        append(ADVANCE, 0, trace.count);
+    size_t length = trace_to_image(&trace, image);
+    print_row("whole run, advances with nothing due", "ns/byte", measure(length), (double)length);
+}
+
+int main(void)
+{
+    printf("image of at most %zu bytes, answer area of %zu, both warm; "
+           "medians of %d turns of %d calls\n",
+           sizeof image, sizeof answer, TURNS, CALLS_PER_TURN);
+    printf("%-44s %-9s %9s %9s %7s\n", "", "", "archive", "baseline", "ratio");
+    measure_whole_run("whole run, three drops at each start", 60, 1);
+    measure_whole_run("whole run, no drops", 10, 4);
+    measure_per_event();
+    measure_blocks("64 blocks of arrivals, refused in the last", UNMARKED, 0);
+    measure_blocks("64 blocks of advances, refused in the last", ADVANCE, 0);
+    measure_advances();
+    return 0;
+}

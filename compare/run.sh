@@ -1,0 +1,75 @@
+#!/bin/sh
+# Builds the comparison, tries the tools on the bundled traces, and compares.
+#
+#     compare/run.sh [ARCHIVE|none [IMAGES [SEED]]]
+# ARCHIVE is the proved archive (default target/staticlib/librun.a); with 'none' the
+# second program and the baseline are compared alone.  See compare/toolchain.sh for
+# the variables it heeds.
+set -eu
+cd "$(dirname "$0")/.."
+. compare/toolchain.sh
+
+named=${1:-target/staticlib/librun.a}
+[ $# -eq 0 ] || shift
+mkdir -p target/compare
+find_archive "$named"
+second='peer/second.c peer/second_line.c peer/second_blocks.c'
+# The lists of files are lists of words.
+# shellcheck disable=SC2086
+{
+    build tracetext tools/tracetext.c tools/trace_text.c peer/second_blocks.c
+    build testbench bench/testbench.c "$archive"
+    if [ "$named" = none ]; then
+        build compare compare/*.c tools/trace_text.c $second peer/baseline.c
+    else
+        build compare -DWITH_ARCHIVE compare/*.c tools/trace_text.c $second peer/baseline.c \
+            "$archive"
+    fi
+}
+
+failed() {
+    printf 'compare/run.sh: %s\n' "$1" >&2
+    exit 1
+}
+
+tool() {
+    emulated target/compare/tracetext "$@"
+}
+
+bench() {
+    emulated target/compare/testbench "$@"
+}
+
+# Each bundled trace: packs, comes back as it was, and has the text beside it.
+traces=0
+for trace in traces/*.trace; do
+    name=$(basename "$trace" .trace)
+    image=target/compare/$name.image
+    tool pack <"$trace" >"$image"
+    tool unpack <"$image" >"$image.trace"
+    tool pack <"$image.trace" | cmp -s - "$image" || failed "$name does not come back"
+    bench --expect "traces/$name.text" "$image" || failed "$name has another text"
+    bench <"$image" | cmp -s - "traces/$name.text" || failed "$name prints another text"
+    traces=$((traces + 1))
+done
+
+# Both tools must also say no: refuses WORDS WHAT STATUS, for what was last said.
+said=target/compare/said
+refuses() {
+    [ "$3" -eq 1 ] || failed "$2 is not refused"
+    grep -q "$1" "$said" || failed "$2 is refused, but without the words '$1'"
+}
+status=0
+bench --expect traces/printed.text target/compare/full-rooms.image >"$said" || status=$?
+refuses 'line 1 differs' 'a text of another trace' $status
+status=0
+printf 'alpha 100 ticks 1\nu50@0\nu0@0\n' | tool pack 2>"$said" || status=$?
+refuses '^tracetext: line 3: length' 'a trace text with a length of 0' $status
+status=0
+head -c 511 target/compare/printed.image | tool unpack 2>"$said" || status=$?
+refuses 'refused with 11 in block 0' 'a cut image' $status
+printf '%s bundled traces packed, unpacked and judged\n' "$traces"
+
+# A difference is saved beside the programs.
+cd target/compare
+emulated ./compare "$@"

@@ -1,0 +1,16 @@
+/* The reader of trace images for the second program and the trace text tool. */
+#ifndef SECOND_BLOCKS_H
+#define SECOND_BLOCKS_H
+
+#include "trace.h"
+
+/* refusal is 0 where the image is taken. */
+struct second_verdict {
+    int refusal;
+    size_t block;
+};
+
+/* trace is filled only where the image is taken. */
+struct second_verdict second_read(const uint8_t *image, size_t image_len, struct trace *trace);
+
+#endif

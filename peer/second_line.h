@@ -1,0 +1,44 @@
+/* The line's rules for the second program, each as document 01 defines it. */
+#ifndef SECOND_LINE_H
+#define SECOND_LINE_H
+
+#include "trace.h"
+
+enum fate { WAITING, STARTED, DROPPED };
+
+struct packet {
+    enum kind marking;
+    uint64_t length;
+    uint64_t arrival;
+    enum fate fate;
+};
+
+/* Packet number n is packets[n - 1].  The queue is the plain stretch of the array
+ * from packets[gone] to packets[admitted - 1]: first come, first served. */
+struct second_line {
+    uint64_t alpha;
+    uint64_t ticks_per_byte;
+    uint64_t clock;
+    uint64_t falls_free;
+    size_t admitted;
+    size_t gone;
+    struct packet packets[MOST_EVENTS];
+};
+
+/* One answer; letter is the one that opens its line in the text, and numbers the
+ * answer has no use for are 0. */
+struct second_answer {
+    char letter;
+    uint64_t number;
+    uint64_t start;
+    uint64_t extra_delay;
+    uint64_t dropped;
+    int refusal;
+};
+
+void second_open(struct second_line *line, uint64_t alpha, uint64_t ticks_per_byte);
+struct second_answer second_take(struct second_line *line, const struct event *event);
+uint64_t second_tally(const struct second_line *line, enum kind marking, enum fate fate);
+uint64_t second_admitted(const struct second_line *line, enum kind marking);
+
+#endif
