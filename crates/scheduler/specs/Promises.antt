@@ -1,10 +1,12 @@
 -- The promises of the three calls, and that each leaves one possible result and one content of the room. Assumes nothing.
 use mathlib.Core.Path.{_≡_}
+use mathlib.Core.List.{List}
 use Prim.Native.Nat.{ℕ}
 use Rattle.units.specs.declared.Bytes.{Bytes}
 use Rattle.units.specs.declared.Instant.{Instant}
 use Rattle.units.specs.declared.Settings.{Settings}
 use Rattle.units.specs.declared.Marking.{Marking}
+use Rattle.rules.specs.Step.{Call}
 use Rattle.room.specs.Room.{Room}
 use Rattle.room.specs.Held.{Sized}
 use Rattle.state.specs.declared.Scheduler.{Scheduler}
@@ -12,7 +14,7 @@ use Rattle.scheduler.specs.declared.Opened.{Opened}
 use Rattle.scheduler.specs.declared.Arrived.{Arrived}
 use Rattle.scheduler.specs.declared.Advanced.{Advanced}
 use Rattle.scheduler.specs.Calls.{openOf, arriveOf, arriveRoom, advanceOf}
-use Rattle.scheduler.specs.Machine.{FromOpening}
+use Rattle.scheduler.specs.Machine.{schedulerAfter, roomAfter, FromOpening}
 
 -- Whatever columns of the lent lengths are used from here on, they and the scheduler come from an opening.
 pub record Opens (settings : Settings) (x : Opened) : Type 0 where
@@ -29,6 +31,14 @@ pub record Arrives (s : Scheduler) (r : Room) (μ : Marking) (len : Bytes) (plac
 pub record Advances (s : Scheduler) (r : Room) (at : Instant) (x : Advanced) : Type 0 where
   pub value : x ≡ advanceOf s r at
   pub kept : FromOpening (x .scheduler) r
+
+-- Every list of calls from an opening has the premise.
+abbrev pub EveryList : Type 0
+EveryList =
+    (settings : Settings) (lent : Room)
+    → Sized lent
+    → (cs : List Call)
+    → FromOpening (schedulerAfter (openOf settings .scheduler) lent cs) (roomAfter (openOf settings .scheduler) lent cs)
 
 -- Two results that a promise allows are equal.
 abbrev pub OneOpening : Type 0

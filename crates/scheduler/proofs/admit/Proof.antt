@@ -25,11 +25,29 @@ admit-marked-requires : tie.Need-admit-marked-requires
 admit-marked-requires c κs = search needs
 
 returns : tie.Need-returns
-returns c = (unmarked-answer (c .before .before .before .before .before .before .before .before .before .before .before .args .scheduler) (c .before .before .before .before .before .before .before .before .before .before .before .args .packet) _ (c .before .before .before .enum-told .given .1) (c .admit-unmarked .ensures .0), unmarked-room _ _ _ _ _ _ _ _ _ (record { marking = simp (c .before .before .before .before .before .put .ensures .0, c .before .before .before .before .before .before .before .before .before .before .admissions .ensures); length = simp (c .before .before .before .before .before .put .ensures .1 .0, c .before .before .before .before .before .before .before .before .before .before .admissions .ensures); place = simp (c .before .before .before .before .before .put .ensures .1 .1 .0, c .before .before .before .before .before .before .before .before .before .before .admissions .ensures); arrival = simp (c .before .before .before .before .before .put .ensures .1 .1 .1, c .before .before .before .before .before .before .before .before .before .before .admissions .ensures) }) (c .before .before .before .enum-told .given .1) (c .admit-unmarked .ensures .1 .0) (c .admit-unmarked .ensures .1 .1))
+returns c =
+    let start = c .before .before .before .before .before .before .before .before .before .before .before in
+    let told = c .before .before .before .enum-told .given .1 in
+    let put = c .before .before .before .before .before .put in
+    let rank = c .before .before .before .before .before .before .before .before .before .before .admissions .ensures in
+    let entered = c .admit-unmarked in (
+      unmarked-answer (start .args .scheduler) (start .args .packet) _ told (entered .ensures .0),
+      unmarked-room _ _ _ _ _ _ _ _ _
+          (record { marking = simp (put .ensures .0, rank); length = simp (put .ensures .1 .0, rank); place = simp (put .ensures .1 .1 .0, rank); arrival = simp (put .ensures .1 .1 .1, rank) })
+          told (entered .ensures .1 .0) (entered .ensures .1 .1),
+    )
 
 returns-2 : tie.Need-returns-2
 unfolding admitOf
-returns-2 c = (simp (c .before .enum-told2 .given .1, c .admit-marked .ensures), marked-room _ _ _ _ _ _ _ _ _ (record { marking = simp (c .before .before .before .put .ensures .0, c .before .before .before .before .before .before .before .before .admissions .ensures); length = simp (c .before .before .before .put .ensures .1 .0, c .before .before .before .before .before .before .before .before .admissions .ensures); place = simp (c .before .before .before .put .ensures .1 .1 .0, c .before .before .before .before .before .before .before .before .admissions .ensures); arrival = simp (c .before .before .before .put .ensures .1 .1 .1, c .before .before .before .before .before .before .before .before .admissions .ensures) }) (c .before .enum-told2 .given .1) refl refl)
+returns-2 c =
+    let told = c .before .enum-told2 .given .1 in
+    let put = c .before .before .before .put in
+    let rank = c .before .before .before .before .before .before .before .before .admissions .ensures in (
+      simp (told, c .admit-marked .ensures),
+      marked-room _ _ _ _ _ _ _ _ _
+          (record { marking = simp (put .ensures .0, rank); length = simp (put .ensures .1 .0, rank); place = simp (put .ensures .1 .1 .0, rank); arrival = simp (put .ensures .1 .1 .1, rank) })
+          told refl refl,
+    )
 
 pub admit-spec : {M : Type 1} → statement M
 admit-spec =

@@ -28,7 +28,16 @@ admit-unmarked-requires : tie.Need-admit-unmarked-requires
 admit-unmarked-requires c κs = search needs
 
 returns : tie.Need-returns
-returns c = (simp (c .admit-unmarked .ensures, c .before .transmission-time .ensures, c .before .before .before .before .before .before .own-delay .ensures, c .before .before .before .before .before .before .before .waiting .ensures, c .before .before .before .before .before .before .before .before .admissions .ensures), (simp (c .before .before .enter .ensures .0, c .before .before .before .before .before .before .before .before .admissions .ensures), simp (c .before .before .enter .ensures .1, c .before .before .before .before .before .difference .ensures, c .before .before .before .before .before .before .own-delay .ensures, c .before .before .before .before .before .before .before .waiting .ensures)))
+returns c =
+    let own = c .before .before .before .before .before .before .own-delay .ensures in
+    let waiting = c .before .before .before .before .before .before .before .waiting .ensures in
+    let number = c .before .before .before .before .before .before .before .before .admissions .ensures in (
+      simp (c .admit-unmarked .ensures, c .before .transmission-time .ensures, own, waiting, number),
+      (
+        simp (c .before .before .enter .ensures .0, number),
+        simp (c .before .before .enter .ensures .1, c .before .before .before .before .before .difference .ensures, own, waiting),
+      ),
+    )
 
 pub admit-unmarked-spec : {M : Type 1} → statement M
 admit-unmarked-spec =

@@ -36,7 +36,10 @@ start-unmarked-requires c κs = (c .before .before .before .before .before .befo
 
 returns : tie.Need-returns
 unfolding startFirst
-returns c = simp (c .start-unmarked .ensures, c .before .before .difference-of .ensures, c .before .before .before .transmission-time .ensures, c .before .before .before .before .gone .ensures, c .before .before .before .before .before .packet-at .ensures, c .before .before .before .before .before .before .number-of .ensures)
+returns c =
+    let packet = c .before .before .before .before .before .packet-at .ensures in
+    let number = c .before .before .before .before .before .before .number-of .ensures in
+    simp (c .start-unmarked .ensures, c .before .before .difference-of .ensures, c .before .before .before .transmission-time .ensures, c .before .before .before .before .gone .ensures, packet, number)
 
 pub start-first-spec : {M : Type 1} → statement M
 start-first-spec =
