@@ -1,6 +1,6 @@
 -- Laws of lists made piece by piece: where each piece stands, and that a list is made of its own pieces. Assumes nothing.
 use mathlib.Core.Path.{_≡_, refl, ap, _∙_}
-use mathlib.Core.List.{List, [], _∷_, _++_, append-assoc, append-nil, map}
+use mathlib.Core.List.{List, [], _∷_, _++_, append-assoc, append-nil}
 use Prim.Native.Nat.{ℕ, zero, suc, _+_, _-_, _*_, _<_}
 use native.Mathlib.Omega.{arith}
 use native.Mathlib.Nat.{add-zero, add-suc, mul-suc, mul-zero}
@@ -28,15 +28,6 @@ rows-split n k g h =
     ap (λ (m : ℕ). rows m g) e ∙ rows-add (k + 1) (n - (k + 1)) g
     ∙ ap (λ (l : List _). l ++ rows (n - (k + 1)) (λ j. g (k + 1 + j))) (rows-add k 1 g ∙ ap (λ (m : ℕ). rows k g ++ g m) (add-zero k))
     ∙ append-assoc (rows k g) (g k) _
-
-pub map-rows : {A B : Type 0} (f : A → B) (n : ℕ) (g : ℕ → A) → map f (tab n g) ≡ tab n (λ k. f (g k))
-unfolding rows
-map-rows f zero g = refl
-map-rows f (suc n) g = map-append f (tab n g) (g n ∷ []) ∙ ap (λ (l : List _). l ++ (f (g n) ∷ [])) (map-rows f n g)
-  where
-    map-append : {A B : Type 0} (f : A → B) (xs ys : List A) → map f (xs ++ ys) ≡ map f xs ++ map f ys
-    map-append f [] ys = refl
-    map-append f (x ∷ xs) ys = ap (λ (l : List _). f x ∷ l) (map-append f xs ys)
 
 -- Pieces of one width w.
 module _ {A : Type 0} (w : ℕ) where

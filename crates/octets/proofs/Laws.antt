@@ -6,7 +6,7 @@ use native.Mathlib.Omega.{arith}
 use native.Mathlib.Nat.{add-zero, add-suc, add-assoc, mul-assoc, add-mul, mul-one, pow-zero, pow-suc, div-one, mul-comm, div-div-eq-div-mul}
 use lib.Arith.{mod-mul, digits-div, digits-mod, digits-lt}
 use lib.ListN.{length, getD, take, drop, length-append, length-drop, List·getD-append}
-use lib.Seq.{sets, take-suc, getD-drop, getD-take, getD-at, getD-append-add}
+use lib.Seq.{sets, take-suc, getD-drop, getD-at, getD-append-add}
 use Rattle.lists.proofs.Stores.{stored, stored-more}
 use Rattle.octets.specs.Octets.{Octets, numberAt, octetsOf}
 
@@ -29,12 +29,6 @@ pub number-ext : (s t : List ℕ) (a b n : ℕ) → ((k : ℕ) → k < n → get
 unfolding numberAt
 number-ext s t a b zero h = refl
 number-ext s t a b (suc n) h = rw (number-ext s t a b n (λ k l. h k (omega arith)), h n (omega arith))
-
--- A number that stands in a part of a list.
-pub number-part : (s : List ℕ) (a w at n : ℕ) → at + n ≤ w → numberAt (take w (drop a s)) at n ≡ numberAt s (a + at) n
-number-part s a w at n h =
-    number-ext (take w (drop a s)) s at (a + at) n (λ k l.
-    getD-take w (drop a s) (at + k) 0 (omega arith) ∙ getD-drop a s (at + k) 0 ∙ ap (λ (m : ℕ). getD s m 0) (sym (add-assoc a at k)))
 
 -- A number after m bytes.
 pub number-after : (p q r : List ℕ) (m n : ℕ) → length p ≡ m → length q ≡ n → numberAt (p ++ (q ++ r)) m n ≡ numberAt q 0 n

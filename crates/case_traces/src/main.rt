@@ -1,0 +1,208 @@
+// Each refusal of the reader and the writer reached once, with its block and the lent memory shown, and a trace that fills 64 blocks.
+use images::Reading;
+use layout::seal;
+use libc::STDOUT_FILENO;
+use reader::read;
+use units::Settings;
+use units::Ticks;
+use writer::Writing;
+use writer::write;
+
+fn word(text: &[u8]) {
+    io::write_all(STDOUT_FILENO, text);
+}
+
+fn number(n: u64) {
+    io::print_decimal(STDOUT_FILENO, n);
+    word(b" ");
+}
+
+fn small(n: u8) {
+    number(n as u64);
+}
+
+fn middle(n: u32) {
+    number(n as u64);
+}
+
+fn show_reading(r: Reading) {
+    match r {
+        Reading::Accepted { settings, events } => {
+            word(b"accepted ");
+            number(settings.alpha.0);
+            number(settings.ticks_per_byte as u64);
+            number(events as u64);
+        }
+        Reading::Refused { number: n, block } => {
+            word(b"refused ");
+            number(n as u64);
+            number(block as u64);
+        }
+    }
+}
+
+fn show_writing(w: Writing) {
+    match w {
+        Writing::Written { bytes } => {
+            word(b"written ");
+            number(bytes as u64);
+        }
+        Writing::Refused { number: n } => {
+            word(b"refused ");
+            number(n as u64);
+        }
+    }
+}
+
+// Reads into columns of 77s, and shows the answer and the columns' first and last entries.
+fn reading(image: &[u8]) {
+    let mut kinds = [77u8; 33];
+    let mut lengths = [77u32; 33];
+    let mut places = [77u32; 33];
+    let mut instants = [77u64; 33];
+    show_reading(read(image, &mut kinds, &mut lengths, &mut places, &mut instants));
+    small(kinds[0]);
+    middle(lengths[0]);
+    middle(places[0]);
+    number(instants[0]);
+    small(kinds[32]);
+    word(b"\n");
+}
+
+// The same with one column that is one entry short of 32 events.
+fn reading_short(image: &[u8]) {
+    let mut kinds = [77u8; 33];
+    let mut lengths = [77u32; 33];
+    let mut places = [77u32; 33];
+    let mut instants = [77u64; 31];
+    show_reading(read(image, &mut kinds, &mut lengths, &mut places, &mut instants));
+    small(kinds[0]);
+    number(instants[0]);
+    word(b"\n");
+}
+
+// Reads an image that was cut within a block.
+fn cut(image: &[u8]) {
+    if 1000 <= image.len() {
+        reading(&image[0..1000]);
+    }
+}
+
+fn store(image: &mut [u8], at: usize, value: u8) {
+    if at < image.len() {
+        image[at] = value;
+    }
+}
+
+fn reseal(image: &mut [u8]) {
+    if 1024 <= image.len() {
+        seal(image, 0);
+        seal(image, 512);
+    }
+}
+
+// Reads an image of two blocks with one byte changed and both checks made right again.
+fn changed(image: [u8; 1024], at: usize, value: u8) {
+    let mut other = image;
+    store(&mut other, at, value);
+    reseal(&mut other);
+    reading(&other);
+}
+
+// The same with the checks left as they were.
+fn torn(image: [u8; 1024], at: usize, value: u8) {
+    let mut other = image;
+    store(&mut other, at, value);
+    reading(&other);
+}
+
+fn settings(alpha: u64, ticks: u16) -> Settings {
+    Settings {
+        alpha: Ticks(alpha),
+        ticks_per_byte: ticks,
+    }
+}
+
+// Writes a length-50 packet at place 7 and instant 9 for each kind, and shows the answer and the image's first byte, 55 before.
+fn writing(s: Settings, kinds: &[u8], lengths: &[u32], image: &mut [u8]) {
+    let places = [7u32; 32];
+    let instants = [9u64; 32];
+    show_writing(write(s, kinds, lengths, &places, &instants, image));
+}
+
+fn written() -> [u8; 1024] {
+    let mut image = [55u8; 1024];
+    writing(settings(100, 1), &[1u8; 32], &[50u32; 32], &mut image);
+    word(b"\n");
+    image
+}
+
+fn writer_cases() {
+    let mut image = [55u8; 1024];
+    writing(settings(0, 1), &[1u8; 32], &[50u32; 32], &mut image);
+    writing(settings(100, 65), &[1u8; 32], &[50u32; 32], &mut image);
+    writing(settings(100, 1), &[1u8; 31], &[50u32; 32], &mut image);
+    writing(settings(100, 1), &[4u8; 32], &[50u32; 32], &mut image);
+    writing(settings(100, 1), &[1u8; 32], &[2049u32; 32], &mut image);
+    writing(settings(100, 1), &[1u8; 32], &[50u32; 32], &mut image[1..]);
+    small(image[0]);
+    small(image[1023]);
+    word(b"\n");
+}
+
+// No event, one too many, and 1,984 events in 64 blocks, read again.
+fn counts() {
+    let kinds = [3u8; 1985];
+    let lengths = [0u32; 1985];
+    let places = [0u32; 1985];
+    let instants = [1_000_000_000_000_000u64; 1985];
+    let s = settings(1_000_000, 64);
+    let mut image = [55u8; 32768];
+    show_writing(write(
+        s,
+        &kinds[..0],
+        &lengths[..0],
+        &places[..0],
+        &instants[..0],
+        &mut image,
+    ));
+    show_writing(write(s, &kinds, &lengths, &places, &instants, &mut image));
+    show_writing(write(
+        s,
+        &kinds[..1984],
+        &lengths[..1984],
+        &places[..1984],
+        &instants[..1984],
+        &mut image,
+    ));
+    let mut back = [77u8; 1985];
+    let mut others = [77u32; 1985];
+    let mut more = [77u32; 1985];
+    let mut when = [77u64; 1985];
+    show_reading(read(&image, &mut back, &mut others, &mut more, &mut when));
+    small(back[1983]);
+    small(back[1984]);
+    number(when[1983]);
+    word(b"\n");
+}
+
+fn main() {
+    let image = written();
+    reading(&image);
+    reading_short(&image);
+    cut(&image);
+    reading(b"");
+    torn(image, 600, 1);
+    changed(image, 2, 2);
+    changed(image, 3, 30);
+    changed(image, 515, 0);
+    changed(image, 515, 32);
+    changed(image, 519, 2);
+    changed(image, 523, 101);
+    changed(image, 527, 1);
+    changed(image, 16, 4);
+    changed(image, 17, 1);
+    changed(image, 1023, 1);
+    writer_cases();
+    counts();
+}
