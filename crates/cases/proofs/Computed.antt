@@ -2,8 +2,13 @@
 use mathlib.Core.Path.{refl}
 use Rattle.rules.specs.Decide.{firstUnmarked, decide}
 use Rattle.rules.specs.Step.{step, after, answers}
+use Rattle.lists.specs.Rows.{rows}
+use Rattle.octets.specs.Octets.{octetsOf}
+use Rattle.checksum.specs.Sum.{onesSum, checkOf}
+use Rattle.events.specs.Record.{recordBytes, recordOf}
+use Rattle.blocks.specs.Block.{sealed, bodyOf}
 use Rattle.cases.specs.Table.{AllCases}
 
 pub all-cases : AllCases
-unfolding answers after step decide firstUnmarked
+unfolding answers after step decide firstUnmarked onesSum checkOf sealed bodyOf rows recordBytes recordOf octetsOf
 all-cases = refl

@@ -1,10 +1,13 @@
--- Document 01's printed case and its cases P1 to P8, as one table under a single statement. Assumes nothing.
+-- Document 01's printed case and its cases P1 to P10, as one table under a single statement. Assumes nothing.
 use mathlib.Core.Path.{_≡_}
 use mathlib.Core.List.{List, [], _∷_, _++_, map}
 use Prim.Native.Nat.{ℕ}
 use Rattle.units.specs.declared.Settings.{Settings}
-use Rattle.units.specs.declared.Marking.the-variants.{Unmarked, Marked}
+use Rattle.units.specs.declared.Marking.the-variants as marking
 use Rattle.units.specs.Time.{transmissionTime}
+use Rattle.checksum.specs.Sum.{onesSum, checkOf}
+use Rattle.events.specs.declared.Event.the-variants.{Unmarked}
+use Rattle.blocks.specs.Block.{blockBytes}
 use Rattle.rules.specs.Terms.{termsOf}
 use Rattle.rules.specs.Line.{fresh}
 use Rattle.rules.specs.Step.{Call, arrive, advance, after, answers}
@@ -15,10 +18,10 @@ abbrev pub settings : Settings
 settings = record { alpha = record { 0 = 100 }; «ticks_per_byte» = 1 }
 
 abbrev pub u : (len t : ℕ) → Call
-u len t = arrive Unmarked len 0 t
+u len t = arrive marking.Unmarked len 0 t
 
 abbrev pub m : (len t : ℕ) → Call
-m len t = arrive Marked len 0 t
+m len t = arrive marking.Marked len 0 t
 
 abbrev pub a : (t : ℕ) → Call
 a t = advance t
@@ -85,6 +88,10 @@ table =
     -- P8: extra delay 30
     ∷ case (printed (u 10 0 ∷ a 0 ∷ m 30 5 ∷ a 10 ∷ u 10 10 ∷ []))
     ((65 ∷ 1 ∷ 0 ∷ []) ∷ (83 ∷ 1 ∷ 0 ∷ 0 ∷ 0 ∷ []) ∷ (77 ∷ 2 ∷ []) ∷ (83 ∷ 2 ∷ 10 ∷ 0 ∷ 0 ∷ []) ∷ (65 ∷ 3 ∷ 30 ∷ []) ∷ [])
+    -- P9: the sum of four words
+    ∷ case ((onesSum 0 (0x00 ∷ 0x01 ∷ 0xf2 ∷ 0x03 ∷ 0xf4 ∷ 0xf5 ∷ 0xf6 ∷ 0xf7 ∷ []) ∷ []) ∷ []) ((0xddf2 ∷ []) ∷ [])
+    -- P10: the check of one block that holds only u50@0 at place 0
+    ∷ case ((checkOf (blockBytes settings 0 1 (λ k. Unmarked (record { 0 = 50 }) 0 (record { 0 = 0 }))) ∷ []) ∷ []) ((0xfd67 ∷ []) ∷ [])
     ∷ []
 
 -- Each case gives what document 01 says.
