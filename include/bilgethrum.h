@@ -15,20 +15,14 @@ extern "C" {
 #define BILGETHRUM_MOST_BLOCKS 64
 #define BILGETHRUM_MOST_EVENTS 1984
 
-/* An answer area of this many bytes is enough for every image.
+/* An answer area of this many bytes is enough for every image, and lets the run play
+ * each event once; with a smaller area it first measures the text.
  *
- * Each of at most 1,984 events gives one line.  In it a packet number has at most
- * 4 digits (1,984), a start 16 (10^15), an extra delay 7 (it never passes alpha,
- * at most 1,000,000), a count of dropped packets 2 (64 can wait):
- *     A n e       1+1+4+1+7+1                = 15
- *     M n         1+1+4+1                    =  7
- *     S n t e k   1+1+4+1+16+1+7+1+2+1       = 35, the longest
- *     N           1+1                        =  2
- *     R c         1+1+1+1                    =  4
- * The tally line has five counts of at most 1,984:  1 + 5*(1+4) + 1 = 27.
- * A refused image has one line, X c b:              1+1+2+1+2+1     =  8. */
-#define BILGETHRUM_LONGEST_LINE 35
-#define BILGETHRUM_TALLY_LINE 27
+ * An event's line has a letter, at most four numbers of at most 20 digits with a
+ * space before each, and a line end:  1 + 4*(1+20) + 1 = 86.
+ * The tally line has five numbers:    1 + 5*(1+20) + 1 = 107. */
+#define BILGETHRUM_LONGEST_LINE 86
+#define BILGETHRUM_TALLY_LINE 107
 #define BILGETHRUM_ANSWER_ENOUGH \
     (BILGETHRUM_MOST_EVENTS * BILGETHRUM_LONGEST_LINE + BILGETHRUM_TALLY_LINE)
 

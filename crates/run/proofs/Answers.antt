@@ -13,7 +13,7 @@ use Rattle.images.specs.declared.Reading.the-variants.{Accepted}
 use Rattle.images.specs.Image.{judged}
 use Rattle.images.proofs.Accepted.{whole, count-most}
 use Rattle.text.specs.Row.{valuesText}
-use Rattle.text.specs.Put.{Put}
+use Rattle.text.specs.Put.{Put, Told}
 use Rattle.run.specs.Trace.{readText, textOf}
 use Rattle.run.specs.Ran.{Answers}
 
@@ -24,6 +24,12 @@ answers-put {text} {before} {after} {p} {r} h w e =
       result = rw (le-leb (length text) (length before) h) (e ∙ ap pos (w .place ∙ zero-add (length text)));
       area = rw (le-leb (length text) (length before) h) (w .stored);
     }
+
+-- A text that was told where it fits.
+pub answers-told : {text before after : List ℕ} {p : ℕ} {r : ℤ} → length text ≤ length before → Told before 0 text after p → r ≡ pos p
+    → Answers text before after r
+answers-told {text} {before} h t e =
+    answers-put h (record { place = t .place; stored = t .stored (rw (zero-add (length text)) h) }) e
 
 pub answers-short : {text before : List ℕ} {r : ℤ} → length before < length text → r ≡ negsuc 31 → Answers text before before r
 answers-short {text} {before} {r} h e =

@@ -1,4 +1,4 @@
-pub mod Calls
+pub mod Lines
 pub mod Plays
 pub mod Tells
 pub mod Traces

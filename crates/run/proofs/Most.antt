@@ -43,7 +43,7 @@ event-most s r (advance t) = advance-most (advanceOf s r (instant t) .answer)
 tally-most : (t : Tallies) → length (valuesText (tallyValues t)) ≤ 107
 tally-most t = line-most 84 (t .admitted .unmarked ∷ t .admitted .marked ∷ t .started .unmarked ∷ t .started .marked ∷ t .dropped ∷ []) 5 (omega arith)
 
-events-most : (image : List ℕ) (s : Scheduler) (r : Room) (k : ℕ) → length (eventsText image s r k) ≤ 86 * k
+pub events-most : (image : List ℕ) (s : Scheduler) (r : Room) (k : ℕ) → length (eventsText image s r k) ≤ 86 * k
 events-most image s r zero = omega (arith, ap length (text-none image s r))
 events-most image s r (suc k) =
     omega (

@@ -1,10 +1,10 @@
 -- What the scheduler's promises say of one event's line. Assumes nothing.
-use mathlib.Core.Path.{_≡_, refl, ap, subst⁻¹, _∙_}
+use mathlib.Core.Path.{_≡_, refl, sym, ap, subst, subst⁻¹, _∙_}
 use Prim.Native.Nat.{ℕ}
 use Rattle.units.specs.declared.Bytes.{Bytes}
 use Rattle.units.specs.declared.Instant.{Instant}
 use Rattle.units.specs.declared.Marking.{Marking}
-use Rattle.rules.specs.Step.{arrive, advance}
+use Rattle.rules.specs.Step.{Call, arrive, advance}
 use Rattle.room.specs.Room.{Room}
 use Rattle.state.specs.declared.Scheduler.{Scheduler}
 use Rattle.scheduler.specs.declared.Arrived.{Arrived}
@@ -15,7 +15,8 @@ use Rattle.text.specs.declared.Row.{Row}
 use Rattle.text.specs.Row.{Shows}
 use Rattle.events.specs.declared.Event.{Event}
 use Rattle.run.specs.declared.Played.{Played}
-use Rattle.run.specs.Trace.{callOf}
+use Rattle.run.specs.declared.Coming.{Coming}
+use Rattle.run.specs.Trace.{callOf, comingCall}
 use Rattle.run.specs.Plays.{Plays}
 
 pub arrival-plays : (s : Scheduler) (r : Room) (μ : Marking) (len : Bytes) (place : ℕ) (at : Instant) (x : Arrived) (left : Room) (row : Row)
@@ -42,3 +43,7 @@ advance-plays s r at x row a h =
 
 pub event-plays : {s : Scheduler} {r : Room} {e f : Event} {x : Played} {left : Room} → e ≡ f → Plays s r (callOf f) x left → Plays s r (callOf e) x left
 event-plays {s} {r} {e} {f} {x} {left} h p = subst⁻¹ (λ (g : Event). Plays s r (callOf g) x left) h p
+
+pub coming-plays : {s : Scheduler} {r : Room} {x : Played} {left : Room} (e : Event) (y z : Coming) → comingCall y ≡ callOf e → y ≡ z
+    → Plays s r (comingCall z) x left → Plays s r (callOf e) x left
+coming-plays {s} {r} {x} {left} e y z h k p = subst (λ (c : Call). Plays s r c x left) (ap comingCall (sym k) ∙ h) p

@@ -2,11 +2,11 @@
 use mathlib.Core.Path.{_≡_, refl, sym, ap, _∙_}
 use mathlib.Core.Bool.{Bool, true, false}
 use mathlib.Core.List.{List, [], _∷_, _++_}
-use Prim.Native.Nat.{ℕ, zero, suc, _+_, _≤_, _<_}
+use Prim.Native.Nat.{ℕ, zero, suc, _+_, _≤_}
 use native.Mathlib.Numerals.{add-one}
 use native.Mathlib.Omega.{arith}
 use lib.Dec.{leb}
-use lib.ListN.{length, length-append, length-take}
+use lib.ListN.{length, length-append}
 use borrow.Author.Tests.{leb-true, leb-false}
 use Rattle.lists.specs.Rows.{rows}
 use Rattle.events.specs.declared.Event.{Event}
@@ -14,15 +14,14 @@ use Rattle.images.specs.Image.{eventAt}
 use Rattle.room.specs.Room.{Room}
 use Rattle.state.specs.declared.Scheduler.{Scheduler}
 use Rattle.scheduler.specs.Machine.{made, schedulerAfter, roomAfter, valuesBy, FromOpening}
-use Rattle.text.specs.declared.Row.{Row}
-use Rattle.text.specs.Row.{valuesText, numbersOf, rowText, Shows}
-use Rattle.text.specs.Put.{Put}
-use Rattle.text.proofs.Fields.{line-most}
+use Rattle.text.specs.Row.{valuesText, rowText}
+use Rattle.text.specs.Put.{Told}
 use Rattle.run.specs.declared.Played.{Played}
 use Rattle.run.specs.Trace.{callOf, callsOf}
 use Rattle.run.specs.Plays.{Plays}
 use Rattle.run.specs.Tells.{eventsText, Reached}
-use Rattle.run.proofs.Calls.{scheduler-more, room-more, values-more, lines-more}
+use Rattle.scheduler.proofs.OneMore.{scheduler-more, room-more, values-more}
+use Rattle.run.proofs.Lines.{lines-more}
 use Rattle.run.proofs.Plays.{event-plays}
 
 module _ (image : List ℕ) (s : Scheduler) (r : Room) where
@@ -76,15 +75,6 @@ module _ (image : List ℕ) (s : Scheduler) (r : Room) where
     pub text-more : eventsText image s r (k + 1) ≡ eventsText image s r k ++ rowText (x .row)
     text-more = rw (add-one k, row-text) (text-next k)
 
-    pub length-more : {before after : ℕ} → before ≡ length (eventsText image s r k) → after ≡ length (rowText (x .row))
-        → before + after ≡ length (eventsText image s r (k + 1))
-    length-more h j = rw (h, j) (sym (length-append (eventsText image s r k) (rowText (x .row))) ∙ ap length (sym text-more))
-
-    -- There is room for its line.
-    pub text-room : (n : ℕ) → k < n → length (eventsText image s r k) + length (rowText (x .row)) ≤ length (eventsText image s r n)
-    text-room n h =
-        omega (arith, grows (k + 1) n (omega arith), ap length text-more, length-append (eventsText image s r k) (rowText (x .row)))
-
 -- Before the first event.
 pub reached-none : (image : List ℕ) (s : Scheduler) (r : Room) → FromOpening s r → Reached image s r 0 s r
 unfolding rows schedulerAfter roomAfter
@@ -94,9 +84,5 @@ pub text-none : (image : List ℕ) (s : Scheduler) (r : Room) → eventsText ima
 unfolding rows valuesBy
 text-none image s r = refl
 
-pub put-none : (image : List ℕ) (s : Scheduler) (r : Room) (l : List ℕ) → Put l 0 (eventsText image s r 0) l 0
-put-none image s r l = rw (text-none image s r) (record { place = refl; stored = refl })
-
--- No event's line is longer than 86 bytes.
-pub row-most : (values : List ℕ) (row : Row) → Shows 4 values row → length (rowText row) ≤ 86
-row-most values row h = omega (arith, line-most (row .letter) (numbersOf row) 4 (omega (arith, length-take (row .count) (row .values), h .few)))
+pub told-none : (image : List ℕ) (s : Scheduler) (r : Room) (l : List ℕ) → Told l 0 (eventsText image s r 0) l 0
+told-none image s r l = rw (text-none image s r) (record { place = refl; stored = λ h. refl })

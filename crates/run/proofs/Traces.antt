@@ -23,7 +23,7 @@ use Rattle.text.specs.declared.Row.{Row}
 use Rattle.text.specs.Row.{valuesText, rowText, Shows}
 use Rattle.run.specs.Trace.{linesText, callsOf, traceText}
 use Rattle.run.specs.Tells.{eventsText}
-use Rattle.run.proofs.Calls.{lines-more}
+use Rattle.run.proofs.Lines.{lines-more}
 
 module _ (image : List ℕ) (settings : Settings) (n : ℕ) (lent : Room) (sized : Sized lent) where
   pub by-code : traceText image settings n

@@ -2,11 +2,10 @@
 use mathlib.Core.Path.{_≡_}
 use mathlib.Core.List.{List}
 use Prim.Native.Nat.{ℕ}
-use lib.ListN.{length}
 use Rattle.room.specs.Room.{Room}
 use Rattle.state.specs.declared.Scheduler.{Scheduler}
 use Rattle.scheduler.specs.Machine.{schedulerAfter, roomAfter, valuesBy, FromOpening}
-use Rattle.text.specs.Put.{Put}
+use Rattle.text.specs.Put as text
 use Rattle.run.specs.declared.Told.{Told}
 use Rattle.run.specs.Trace.{linesText, callsOf}
 
@@ -20,12 +19,7 @@ pub record Reached (image : List ℕ) (s : Scheduler) (r : Room) (k : ℕ) (then
   pub room : left ≡ roomAfter s r (callsOf image k)
   pub kept : FromOpening then left
 
--- The events' text was put at the start of the area.
-pub record Writes (image : List ℕ) (k : ℕ) (s : Scheduler) (r : Room) (before after : List ℕ) (x : Told) : Type 0 where
-  pub put : Put before 0 (eventsText image s r k) after (x .next)
-  pub scheduler : x .scheduler ≡ schedulerAfter s r (callsOf image k)
-
--- The events' text was measured.
-pub record Measures (image : List ℕ) (k : ℕ) (s : Scheduler) (r : Room) (x : Told) : Type 0 where
-  pub total : x .next ≡ length (eventsText image s r k)
+-- The events' text was told to the area.
+pub record Tells (image : List ℕ) (k : ℕ) (s : Scheduler) (r : Room) (before after : List ℕ) (x : Told) : Type 0 where
+  pub told : text.Told before 0 (eventsText image s r k) after (x .next)
   pub scheduler : x .scheduler ≡ schedulerAfter s r (callsOf image k)

@@ -13,6 +13,7 @@ use Rattle.events.specs.declared.Event.the-variants.{Unmarked, Marked, Advance}
 use Rattle.images.specs.declared.Reading.{Reading}
 use Rattle.images.specs.declared.Reading.the-variants.{Accepted, Refused}
 use Rattle.images.specs.Image.{judged, eventAt}
+use Rattle.run.specs.declared.Coming.{Coming}
 use Rattle.lists.specs.Rows.{tab}
 use Rattle.text.specs.Row.{valuesText}
 
@@ -26,6 +27,10 @@ abbrev pub callOf : Event → Call
 callOf (Unmarked length place at) = arrive marking.Unmarked (length .0) place (at .0)
 callOf (Marked length place at) = arrive marking.Marked (length .0) place (at .0)
 callOf (Advance at) = advance (at .0)
+
+abbrev pub comingCall : Coming → Call
+comingCall (Coming.Arrival μ length place at) = arrive μ (length .0) place (at .0)
+comingCall (Coming.Advance at) = advance (at .0)
 
 -- The first n events of an image as calls.
 abbrev pub callsOf : List ℕ → (n : ℕ) → List Call

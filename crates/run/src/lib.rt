@@ -6,11 +6,11 @@ ghost use lib.ListN.{length};
 ghost use Rattle.rules.specs.Step.{arrive, advance};
 ghost use Rattle.room.specs.Room.{columns};
 ghost use Rattle.scheduler.specs.Machine.{FromOpening};
-ghost use Rattle.text.specs.Put.{Put};
-ghost use Rattle.run.specs.Trace.{callOf, traceText, refusedText, textOf};
+ghost use Rattle.text.specs.Put as text;
+ghost use Rattle.run.specs.Trace.{callOf, comingCall, traceText, refusedText, textOf};
 ghost use Rattle.run.specs.Plays.{Plays};
 ghost use Rattle.run.specs.Ran.{Answers};
-ghost use Rattle.run.specs.Tells.{eventsText, Writes, Measures};
+ghost use Rattle.run.specs.Tells.{Tells};
 use events::Event;
 use images::Reading;
 use images::event_at;
@@ -22,6 +22,7 @@ use state::Scheduler;
 use text::Row;
 use text::put_row;
 use text::row_length;
+use text::tell_row;
 use units::Bytes;
 use units::Instant;
 use units::Marking;
@@ -33,7 +34,20 @@ pub struct Played {
     pub scheduler: Scheduler,
 }
 
-// The place behind a text, or its length, and the scheduler after its events.
+// An event as the call that it is.
+pub enum Coming {
+    Arrival {
+        marking: Marking,
+        length: Bytes,
+        place: u32,
+        at: Instant,
+    },
+    Advance {
+        at: Instant,
+    },
+}
+
+// The place behind a text, and the scheduler after its events.
 pub struct Told {
     pub next: usize,
     pub scheduler: Scheduler,
@@ -107,6 +121,27 @@ fn play_advance(
     }
 }
 
+// The call that an event is.
+fn call_of(event: Event) -> Coming
+    ensures { λ r. ⌜ comingCall r ≡ callOf event ⌝ }
+{
+    match event {
+        Event::Unmarked { length, place, at } => Coming::Arrival {
+            marking: Marking::Unmarked,
+            length,
+            place,
+            at,
+        },
+        Event::Marked { length, place, at } => Coming::Arrival {
+            marking: Marking::Marked,
+            length,
+            place,
+            at,
+        },
+        Event::Advance { at } => Coming::Advance { at },
+    }
+}
+
 // Plays one event.
 fn play(
     event: Event,
@@ -121,10 +156,15 @@ fn play(
     requires { ⌜ FromOpening scheduler (columns (now markings) (now lengths) (now places) (now arrivals) (now numbers) (now differences)) ⌝ }
     ensures { λ r. ⌜ Plays scheduler (columns (now (markings .entry)) (now (lengths .entry)) (now (places .entry)) (now (arrivals .entry)) (now (numbers .entry)) (now (differences .entry))) (callOf event) r (columns (now (markings .exit)) (now (lengths .exit)) (now (places .exit)) (now (arrivals .exit)) (now (numbers .exit)) (now (differences .exit))) ⌝ }
 {
-    match event {
-        Event::Unmarked { length, place, at } => play_arrival(
+    match call_of(event) {
+        Coming::Arrival {
+            marking,
+            length,
+            place,
+            at,
+        } => play_arrival(
             scheduler,
-            Marking::Unmarked,
+            marking,
             length,
             place,
             at,
@@ -135,20 +175,7 @@ fn play(
             numbers,
             differences,
         ),
-        Event::Marked { length, place, at } => play_arrival(
-            scheduler,
-            Marking::Marked,
-            length,
-            place,
-            at,
-            markings,
-            lengths,
-            places,
-            arrivals,
-            numbers,
-            differences,
-        ),
-        Event::Advance { at } => play_advance(
+        Coming::Advance { at } => play_advance(
             scheduler,
             at,
             markings,
@@ -161,8 +188,8 @@ fn play(
     }
 }
 
-// Puts the lines of the first events at the start of the area.
-fn write_events(
+// Tells the lines of the first events to the area, from its start.
+fn tell_events(
     image: &[u8],
     events: usize,
     scheduler: Scheduler,
@@ -175,9 +202,8 @@ fn write_events(
     differences: &mut [u64; 64],
 ) -> Told
     requires { ⌜ FromOpening scheduler (columns (now markings) (now lengths) (now places) (now arrivals) (now numbers) (now differences)) ⌝ }
-    requires { ⌜ events ≤ 31 * (length (now image) / 512) ⌝ }
-    requires { ⌜ length (eventsText (now image) scheduler (columns (now markings) (now lengths) (now places) (now arrivals) (now numbers) (now differences)) events) ≤ length (now answer) ⌝ }
-    ensures { λ r. ⌜ Writes (now (image .entry)) events scheduler (columns (now (markings .entry)) (now (lengths .entry)) (now (places .entry)) (now (arrivals .entry)) (now (numbers .entry)) (now (differences .entry))) (now (answer .entry)) (now (answer .exit)) r ⌝ }
+    requires { ⌜ (events ≤ 31 * (length (now image) / 512)) × (events ≤ 1984) ⌝ }
+    ensures { λ r. ⌜ Tells (now (image .entry)) events scheduler (columns (now (markings .entry)) (now (lengths .entry)) (now (places .entry)) (now (arrivals .entry)) (now (numbers .entry)) (now (differences .entry))) (now (answer .entry)) (now (answer .exit)) r ⌝ }
 {
     let mut then = scheduler;
     let mut next = 0;
@@ -196,7 +222,7 @@ fn write_events(
         );
         let row = played.row;
         then = played.scheduler;
-        next = put_row(answer, next, row);
+        next = tell_row(answer, next, row);
         k += 1;
     }
     Told {
@@ -205,52 +231,10 @@ fn write_events(
     }
 }
 
-// Measures the lines of the first events.
-fn measure_events(
-    image: &[u8],
-    events: usize,
-    scheduler: Scheduler,
-    markings: &mut [u8; 128],
-    lengths: &mut [u32; 128],
-    places: &mut [u32; 128],
-    arrivals: &mut [u64; 128],
-    numbers: &mut [u32; 64],
-    differences: &mut [u64; 64],
-) -> Told
-    requires { ⌜ FromOpening scheduler (columns (now markings) (now lengths) (now places) (now arrivals) (now numbers) (now differences)) ⌝ }
+// Tells the text of a trace to the area, and returns its length. The waiting room is in its frame.
+fn tell_trace(image: &[u8], settings: Settings, events: usize, answer: &mut [u8]) -> usize
     requires { ⌜ (events ≤ 31 * (length (now image) / 512)) × (events ≤ 1984) ⌝ }
-    ensures { λ r. ⌜ Measures (now (image .entry)) events scheduler (columns (now (markings .entry)) (now (lengths .entry)) (now (places .entry)) (now (arrivals .entry)) (now (numbers .entry)) (now (differences .entry))) r ⌝ }
-{
-    let mut then = scheduler;
-    let mut next = 0;
-    let mut k = 0;
-    while k < events {
-        let played = play(
-            event_at(image, k),
-            then,
-            markings,
-            lengths,
-            places,
-            arrivals,
-            numbers,
-            differences,
-        );
-        let row = played.row;
-        then = played.scheduler;
-        next += row_length(row);
-        k += 1;
-    }
-    Told {
-        next,
-        scheduler: then,
-    }
-}
-
-// Puts the text of a trace at the start of the area, and returns its length. The waiting room is in its frame.
-fn write_trace(image: &[u8], settings: Settings, events: usize, answer: &mut [u8]) -> usize
-    requires { ⌜ events ≤ 31 * (length (now image) / 512) ⌝ }
-    requires { ⌜ length (traceText (now image) settings events) ≤ length (now answer) ⌝ }
-    ensures { λ r. ⌜ Put (now (answer .entry)) 0 (traceText (now (image .entry)) settings events) (now (answer .exit)) r ⌝ }
+    ensures { λ r. ⌜ text.Told (now (answer .entry)) 0 (traceText (now (image .entry)) settings events) (now (answer .exit)) r ⌝ }
 {
     let mut markings = [0u8; 128];
     let mut lengths = [0u32; 128];
@@ -260,7 +244,7 @@ fn write_trace(image: &[u8], settings: Settings, events: usize, answer: &mut [u8
     let mut differences = [0u64; 64];
     let opened = open(settings);
     let scheduler = opened.scheduler;
-    let told = write_events(
+    let told = tell_events(
         image,
         events,
         scheduler,
@@ -275,37 +259,7 @@ fn write_trace(image: &[u8], settings: Settings, events: usize, answer: &mut [u8
     let then = told.scheduler;
     let next = told.next;
     let tallies = then.tallies;
-    put_row(answer, next, report::tallies(tallies))
-}
-
-// Measures the text of a trace, with a waiting room of its own.
-fn measure_trace(image: &[u8], settings: Settings, events: usize) -> usize
-    requires { ⌜ (events ≤ 31 * (length (now image) / 512)) × (events ≤ 1984) ⌝ }
-    ensures { λ r. ⌜ r ≡ length (traceText (now (image .entry)) settings events) ⌝ }
-{
-    let mut markings = [0u8; 128];
-    let mut lengths = [0u32; 128];
-    let mut places = [0u32; 128];
-    let mut arrivals = [0u64; 128];
-    let mut numbers = [0u32; 64];
-    let mut differences = [0u64; 64];
-    let opened = open(settings);
-    let scheduler = opened.scheduler;
-    let told = measure_events(
-        image,
-        events,
-        scheduler,
-        &mut markings,
-        &mut lengths,
-        &mut places,
-        &mut arrivals,
-        &mut numbers,
-        &mut differences,
-    );
-    let then = told.scheduler;
-    let next = told.next;
-    let tallies = then.tallies;
-    next + row_length(report::tallies(tallies))
+    tell_row(answer, next, report::tallies(tallies))
 }
 
 // No event's line is longer than this, nor the tally line than that.
@@ -330,12 +284,13 @@ fn answer_trace(image: &[u8], settings: Settings, events: usize, answer: &mut [u
     ensures { λ r. ⌜ Answers (traceText (now (image .entry)) settings events) (now (answer .entry)) (now (answer .exit)) r ⌝ }
 {
     if LINE_MOST * events + TALLY_MOST <= answer.len() {
-        return as_result(write_trace(image, settings, events, answer));
+        return as_result(tell_trace(image, settings, events, answer));
     }
-    if answer.len() < measure_trace(image, settings, events) {
+    let mut none = [0u8; 1];
+    if answer.len() < tell_trace(image, settings, events, &mut none) {
         return SHORT;
     }
-    as_result(write_trace(image, settings, events, answer))
+    as_result(tell_trace(image, settings, events, answer))
 }
 
 // Answers with the one line of a refused image.

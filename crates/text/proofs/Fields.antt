@@ -4,9 +4,10 @@ use mathlib.Core.List.{List, [], _∷_, _++_, append-assoc, append-nil}
 use Prim.Native.Nat.{ℕ, _+_, _-_, _*_, _≤_, _<_}
 use native.Mathlib.Numerals.{add-one}
 use native.Mathlib.Omega.{arith}
-use lib.ListN.{length, take, drop, getD, length-append}
+use lib.ListN.{length, take, drop, getD, length-append, length-take}
 use lib.Seq.{take-suc, take-add}
-use Rattle.text.specs.Row.{fieldText, fieldsText, lineText}
+use Rattle.text.specs.declared.Row.{Row}
+use Rattle.text.specs.Row.{fieldText, fieldsText, lineText, numbersOf, rowText}
 use Rattle.text.proofs.Digits.{decimal-most}
 
 pub fields-append : (a b : List ℕ) → fieldsText (a ++ b) ≡ fieldsText a ++ fieldsText b
@@ -43,3 +44,6 @@ fields-most (v ∷ vs) = omega (arith, fields-most vs, decimal-most v, length-ap
 
 pub line-most : (letter : ℕ) (vs : List ℕ) (count : ℕ) → length vs ≤ count → length (lineText letter vs) ≤ 21 * count + 2
 line-most letter vs count h = omega (arith, fields-most vs, line-length letter vs)
+
+pub row-most : (row : Row) → row .count ≤ 5 → length (rowText row) ≤ 107
+row-most row h = line-most (row .letter) (numbersOf row) 5 (omega (arith, length-take (row .count) (row .values)))

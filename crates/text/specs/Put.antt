@@ -1,7 +1,7 @@
 -- A text put into a lent area: nothing else there changes. Assumes nothing.
 use mathlib.Core.Path.{_≡_}
 use mathlib.Core.List.{List}
-use Prim.Native.Nat.{ℕ, _+_}
+use Prim.Native.Nat.{ℕ, _+_, _≤_}
 use lib.ListN.{length}
 use lib.Seq.{sets}
 
@@ -9,3 +9,8 @@ use lib.Seq.{sets}
 pub record Put (before : List ℕ) (at : ℕ) (text after : List ℕ) (behind : ℕ) : Type 0 where
   pub place : behind ≡ at + length text
   pub stored : after ≡ sets before at text
+
+-- A text told to an area: `behind` is the place behind it, and where the area reaches so far the text was put.
+pub record Told (before : List ℕ) (at : ℕ) (text after : List ℕ) (behind : ℕ) : Type 0 where
+  pub place : behind ≡ at + length text
+  pub stored : at + length text ≤ length before → after ≡ sets before at text

@@ -1,11 +1,11 @@
 // Lines of a letter and numbers as text, put into a lent area; pub functions serve the crates above.
 ghost use mathlib.Core.Path.{_≡_};
 ghost use mathlib.Core.List.{[], _∷_};
-ghost use Prim.Native.Nat.{_+_, _/_, _%_, _≤_, _<_};
+ghost use Prim.Native.Nat.{_+_, _/_, _%_, _^_, _≤_, _<_};
 ghost use lib.ListN.{length, take};
 ghost use Rattle.text.specs.Decimal.{digit, decimal};
 ghost use Rattle.text.specs.Row.{fieldText, fieldsText, rowText};
-ghost use Rattle.text.specs.Put.{Put};
+ghost use Rattle.text.specs.Put.{Put, Told};
 
 // A line: its letter, and the first `count` of its values.
 pub struct Row {
@@ -111,4 +111,23 @@ pub fn row_length(row: Row) -> usize
 {
     let values = row.values;
     fields_length(values, row.count) + 2
+}
+
+// No line is longer than this.
+const ROW_MOST: usize = 107;
+
+// Tells a line: puts it at `at` where there is room for it, and returns the place behind it in any case. Its length is only worked out near
+// the end of the area.
+pub fn tell_row(out: &mut [u8], at: usize, row: Row) -> usize
+    requires { ⌜ (row .count ≤ 5) × (at < 2 ^ 32) ⌝ }
+    ensures { λ r. ⌜ Told (now (out .entry)) at (rowText row) (now (out .exit)) r ⌝ }
+{
+    if at + ROW_MOST <= out.len() {
+        return put_row(out, at, row);
+    }
+    let behind = at + row_length(row);
+    if behind <= out.len() {
+        return put_row(out, at, row);
+    }
+    behind
 }

@@ -1,46 +1,38 @@
--- `run::play` meets its contract: each kind of event is its call. Assumes nothing.
+-- `run::play` meets its contract: an arrival or an advance, as the event says. Assumes nothing.
 use borrow.Author.Needs.{needs}
-use Rattle.run.proofs.Plays.{event-plays}
+use Rattle.run.proofs.Plays.{coming-plays}
 use Rattle.run.proofs.play.Statement.{statement}
 use Rattle.run.proofs.play.Tie as tie
 
-enum-known-event : tie.Need-enum-known-event
-enum-known-event c = search needs
+call-of-requires : tie.Need-call-of-requires
+call-of-requires c κs = search needs
+
+enum-known-marking : tie.Need-enum-known-marking
+enum-known-marking c = search needs
 
 play-arrival-requires : tie.Need-play-arrival-requires
 play-arrival-requires c κs = search needs
 
-enum-known-event-2 : tie.Need-enum-known-event-2
-enum-known-event-2 c = search needs
-
-play-arrival-requires-2 : tie.Need-play-arrival-requires-2
-play-arrival-requires-2 c κs = search needs
-
-enum-known-event-3 : tie.Need-enum-known-event-3
-enum-known-event-3 c = search needs
+enum-known-at : tie.Need-enum-known-at
+enum-known-at c = search needs
 
 play-advance-requires : tie.Need-play-advance-requires
 play-advance-requires c κs = search needs
 
 returns : tie.Need-returns
-returns c = event-plays (c .before .before .before .before .before .before .before .before .event .given .1) (c .play-arrival .ensures)
+returns c = coming-plays (c .before .before .before .before .before .before .before .before .before .before .before .args .event) _ _ (c .before .before .before .before .before .before .before .before .before .before .call-of .ensures) (c .before .before .before .before .before .before .before .before .marking .given .1) (c .play-arrival .ensures)
 
 returns-2 : tie.Need-returns-2
-returns-2 c = event-plays (c .before .before .before .before .before .before .before .before .event2 .given .1) (c .play-arrival2 .ensures)
-
-returns-3 : tie.Need-returns-3
-returns-3 c = event-plays (c .before .before .before .before .before .before .before .before .event3 .given .1) (c .play-advance .ensures)
+returns-2 c = coming-plays (c .before .before .before .before .before .before .before .before .before .before .before .args .event) _ _ (c .before .before .before .before .before .before .before .before .before .before .call-of .ensures) (c .before .before .before .before .before .before .before .before .at .given .1) (c .play-advance .ensures)
 
 pub play-spec : {M : Type 1} → statement M
 play-spec =
     tie.close
     (tie.spec
-    enum-known-event
+    call-of-requires
+    enum-known-marking
     play-arrival-requires
-    enum-known-event-2
-    play-arrival-requires-2
-    enum-known-event-3
+    enum-known-at
     play-advance-requires
     returns
-    returns-2
-    returns-3)
+    returns-2)
