@@ -4,3 +4,4 @@ pub mod Tells
 pub mod Traces
 pub mod Most
 pub mod Answers
+pub mod Unique

@@ -2,3 +2,4 @@ pub mod Trace
 pub mod Plays
 pub mod Tells
 pub mod Ran
+pub mod Unique
