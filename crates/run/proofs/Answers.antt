@@ -13,31 +13,26 @@ use Rattle.images.specs.declared.Reading.the-variants.{Accepted}
 use Rattle.images.specs.Image.{judged}
 use Rattle.images.proofs.Accepted.{whole, count-most}
 use Rattle.text.specs.Row.{valuesText}
-use Rattle.text.specs.Put.{Put, Told}
-use Rattle.run.specs.Trace.{readText, textOf}
+use Rattle.text.specs.Told.{Told}
+use Rattle.run.specs.Text.{readText, textOf}
 use Rattle.run.specs.Ran.{Answers}
-
-pub answers-put : {text before after : List ℕ} {p : ℕ} {r : ℤ} → length text ≤ length before → Put before 0 text after p → r ≡ pos p
-    → Answers text before after r
-answers-put {text} {before} {after} {p} {r} h w e =
-    record {
-      result = rw (le-leb (length text) (length before) h) (e ∙ ap pos (w .place ∙ zero-add (length text)));
-      area = rw (le-leb (length text) (length before) h) (w .stored);
-    }
 
 -- A text that was told where it fits.
 pub answers-told : {text before after : List ℕ} {p : ℕ} {r : ℤ} → length text ≤ length before → Told before 0 text after p → r ≡ pos p
     → Answers text before after r
-answers-told {text} {before} h t e =
-    answers-put h (record { place = t .place; stored = t .stored (rw (zero-add (length text)) h) }) e
+answers-told {text} {before} {after} {p} {r} h t e =
+    record {
+      result = rw (le-leb (length text) (length before) h) (e ∙ ap pos (t .place ∙ zero-add (length text)));
+      area = rw (le-leb (length text) (length before) h) (t .stored (rw (zero-add (length text)) h));
+    }
 
 pub answers-short : {text before : List ℕ} {r : ℤ} → length before < length text → r ≡ negsuc 31 → Answers text before before r
 answers-short {text} {before} {r} h e =
     record { result = rw (lt-leb (length text) (length before) h) e; area = rw (lt-leb (length text) (length before) h) }
 
 -- A line by the values that it shows.
-pub put-as : {before after k l : List ℕ} {at p : ℕ} → k ≡ l → Put before at (valuesText k) after p → Put before at (valuesText l) after p
-put-as {before} {after} {k} {l} {at} {p} h w = subst (λ (m : List ℕ). Put before at (valuesText m) after p) h w
+pub told-as : {before after k l : List ℕ} {at p : ℕ} → k ≡ l → Told before at (valuesText k) after p → Told before at (valuesText l) after p
+told-as {before} {after} {k} {l} {at} {p} h t = subst (λ (m : List ℕ). Told before at (valuesText m) after p) h t
 
 -- The text of an image that is read so; q is the number as it is handed on.
 pub answers-read : (image : List ℕ) {before after : List ℕ} {q r : ℤ} (x y : Reading) → x ≡ judged image → x ≡ y → q ≡ r

@@ -1,7 +1,2 @@
-pub mod Lines
-pub mod Plays
-pub mod Tells
-pub mod Traces
-pub mod Most
 pub mod Answers
 pub mod Unique

@@ -1,5 +1,3 @@
-pub mod Trace
-pub mod Plays
-pub mod Tells
+pub mod Text
 pub mod Ran
 pub mod Unique

@@ -3,7 +3,7 @@ use mathlib.Core.Path.{_≡_}
 use mathlib.Core.List.{List}
 use Prim.Native.Nat.{ℕ}
 use lib.IntN.{ℤ}
-use Rattle.run.specs.Trace.{textOf}
+use Rattle.run.specs.Text.{textOf}
 use Rattle.run.specs.Ran.{Answers}
 
 -- Two results that it allows for one image and one area are equal.

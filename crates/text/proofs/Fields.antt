@@ -8,7 +8,7 @@ use lib.ListN.{length, take, drop, getD, length-append, length-take}
 use lib.Seq.{take-suc, take-add}
 use Rattle.text.specs.declared.Row.{Row}
 use Rattle.text.specs.Row.{fieldText, fieldsText, lineText, numbersOf, rowText}
-use Rattle.text.proofs.Digits.{decimal-most}
+use Rattle.decimal.proofs.Digits.{decimal-most}
 
 pub fields-append : (a b : List ℕ) → fieldsText (a ++ b) ≡ fieldsText a ++ fieldsText b
 fields-append [] b = refl
@@ -45,5 +45,5 @@ fields-most (v ∷ vs) = omega (arith, fields-most vs, decimal-most v, length-ap
 pub line-most : (letter : ℕ) (vs : List ℕ) (count : ℕ) → length vs ≤ count → length (lineText letter vs) ≤ 21 * count + 2
 line-most letter vs count h = omega (arith, fields-most vs, line-length letter vs)
 
-pub row-most : (row : Row) → row .count ≤ 5 → length (rowText row) ≤ 107
-row-most row h = line-most (row .letter) (numbersOf row) 5 (omega (arith, length-take (row .count) (row .values)))
+pub fields-few : (vs : List ℕ) (count : ℕ) → count ≤ 5 → length (fieldsText (take count vs)) ≤ 105
+fields-few vs count h = omega (arith, fields-most (take count vs), length-take count vs)

@@ -1,4 +1,3 @@
-pub mod Digits
 pub mod Fields
-pub mod Puts
+pub mod Tells
 pub mod ReadBack

@@ -7,7 +7,7 @@ use native.Mathlib.Nat.{pow-suc}
 use native.Mathlib.Omega.{arith}
 use lib.Dec.{ltb}
 use borrow.Author.Tests.{ltb-false}
-use Rattle.text.specs.Decimal.{digit, digitsIn, decimal}
+use Rattle.decimal.specs.Decimal.{digit, digitsIn, decimal}
 use Rattle.text.specs.Row.{fieldsText}
 use Rattle.text.specs.ReadBack.{Printable, LinesReadBack}
 

@@ -1,4 +1,3 @@
-pub mod Decimal
 pub mod Row
-pub mod Put
+pub mod Told
 pub mod ReadBack

@@ -2,9 +2,9 @@
 use mathlib.Core.Path.{_≡_}
 use mathlib.Core.List.{List, [], _∷_, _++_}
 use Prim.Native.Nat.{ℕ, _≤_}
-use lib.ListN.{take}
+use lib.ListN.{length, take}
 use Rattle.text.specs.declared.Row.{Row}
-use Rattle.text.specs.Decimal.{decimal}
+use Rattle.decimal.specs.Decimal.{decimal}
 
 -- A space and a number.
 abbrev pub fieldText : ℕ → List ℕ
@@ -37,3 +37,4 @@ valuesText (letter ∷ vs) = lineText letter vs
 pub record Shows (most : ℕ) (values : List ℕ) (r : Row) : Type 0 where
   pub is : valuesOf r ≡ values
   pub few : r .count ≤ most
+  pub five : length (r .values) ≡ 5

@@ -1,0 +1,28 @@
+-- A number in decimal, without leading zeros. Assumes nothing.
+use mathlib.Core.Bool.{cond}
+use mathlib.Core.List.{List, [], _∷_, _++_}
+use Prim.Native.Nat.{ℕ, zero, suc, _+_, _/_, _%_}
+use lib.Dec.{ltb}
+
+-- The byte of a digit: 48 is '0'.
+abbrev pub digit : ℕ → ℕ
+digit d = 48 + d
+
+-- The digits of v, most significant first, if it has at most so many.
+unfoldable pub digitsIn : (most v : ℕ) → List ℕ
+digitsIn zero v = []
+digitsIn (suc most) v = cond (ltb v 10) (digit v ∷ []) (digitsIn most (v / 10) ++ digit (v % 10) ∷ [])
+
+-- Every number of 64 bits has at most 20 digits.
+unfoldable pub decimal : ℕ → List ℕ
+decimal v = digitsIn 20 v
+
+-- The last two, four and eight digits of v, zeros included, if it has no more.
+abbrev pub two : ℕ → List ℕ
+two v = digit (v / 10) ∷ digit (v % 10) ∷ []
+
+abbrev pub four : ℕ → List ℕ
+four v = two (v / 100) ++ two (v % 100)
+
+abbrev pub eight : ℕ → List ℕ
+eight v = four (v / 10000) ++ four (v % 10000)

@@ -1,0 +1,38 @@
+-- `plays::play` meets its contract: an arrival or an advance, as the event says. Assumes nothing.
+use borrow.Author.Needs.{needs}
+use Rattle.plays.proofs.Plays.{coming-plays}
+use Rattle.plays.proofs.play.Statement.{statement}
+use Rattle.plays.proofs.play.Tie as tie
+
+call-of-requires : tie.Need-call-of-requires
+call-of-requires c κs = search needs
+
+enum-known-marking : tie.Need-enum-known-marking
+enum-known-marking c = search needs
+
+play-arrival-requires : tie.Need-play-arrival-requires
+play-arrival-requires c κs = search needs
+
+enum-known-at : tie.Need-enum-known-at
+enum-known-at c = search needs
+
+play-advance-requires : tie.Need-play-advance-requires
+play-advance-requires c κs = search needs
+
+returns : tie.Need-returns
+returns c = coming-plays (c .before .before .before .before .before .before .before .before .before .before .before .args .event) _ _ (c .before .before .before .before .before .before .before .before .before .before .call-of .ensures) (c .before .before .before .before .before .before .before .before .marking .given .1) (c .play-arrival .ensures)
+
+returns-2 : tie.Need-returns-2
+returns-2 c = coming-plays (c .before .before .before .before .before .before .before .before .before .before .before .args .event) _ _ (c .before .before .before .before .before .before .before .before .before .before .call-of .ensures) (c .before .before .before .before .before .before .before .before .at .given .1) (c .play-advance .ensures)
+
+pub play-spec : {M : Type 1} → statement M
+play-spec =
+    tie.close
+    (tie.spec
+    call-of-requires
+    enum-known-marking
+    play-arrival-requires
+    enum-known-at
+    play-advance-requires
+    returns
+    returns-2)

@@ -1,0 +1,21 @@
+-- The text of an image: that of its trace, or the one line of a refused image. Assumes nothing.
+use mathlib.Core.List.{List, [], _∷_}
+use Prim.Native.Nat.{ℕ}
+use Rattle.images.specs.declared.Reading.{Reading}
+use Rattle.images.specs.declared.Reading.the-variants.{Accepted, Refused}
+use Rattle.images.specs.Image.{judged}
+use Rattle.text.specs.Row.{valuesText}
+use Rattle.telling.specs.Trace.{traceText}
+
+-- A refused image gives only X, the number and the block's index.
+abbrev pub refusedText : (number block : ℕ) → List ℕ
+refusedText number block = valuesText (88 ∷ number ∷ block ∷ [])
+
+-- The text of an image that is read so.
+abbrev pub readText : List ℕ → Reading → List ℕ
+readText image (Accepted settings n) = traceText image settings n
+readText image (Refused number block) = refusedText number block
+
+-- The text of an image.
+abbrev pub textOf : List ℕ → List ℕ
+textOf image = readText image (judged image)
