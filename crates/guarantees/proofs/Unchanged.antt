@@ -15,8 +15,9 @@ use Rattle.room.specs.declared.Packet.{Packet}
 use Rattle.room.specs.Room.{Room}
 use Rattle.state.specs.declared.Scheduler.{Scheduler}
 use Rattle.state.specs.Counts.{waitsOf}
-use Rattle.state.specs.Delays.{pick, dueOf}
-use Rattle.state.specs.Refusals.{advanceTests}
+use Rattle.delays.specs.Delays.{pick}
+use Rattle.acceptance.specs.Due.{dueOf}
+use Rattle.acceptance.specs.Refusals.{advanceTests}
 use Rattle.scheduler.specs.declared.Admission.{Admission}
 use Rattle.scheduler.specs.declared.Arrived.{Arrived}
 use Rattle.scheduler.specs.declared.Outcome.{Outcome}

@@ -25,8 +25,8 @@ use Rattle.room.specs.declared.Packet.{Packet}
 use Rattle.room.specs.Room.{Room, differenceAt}
 use Rattle.state.specs.declared.Scheduler.{Scheduler}
 use Rattle.state.specs.Counts.{admissionsOf, goneOf, waitsOf}
-use Rattle.state.specs.Delays.{dueOf}
-use Rattle.state.specs.Refusals.{advanceTests}
+use Rattle.acceptance.specs.Due.{dueOf}
+use Rattle.acceptance.specs.Refusals.{advanceTests}
 use Rattle.scheduler.specs.declared.Advanced.{Advanced}
 use Rattle.scheduler.specs.Calls.{headOf, timeOf, startHead, startFirst, decideOf, nothingAt, atDue, waiting, advancing, advanceOf, firstPacket, aheadCount, nextLess}
 use Rattle.scheduler.specs.Values.{advanceValues, handed}

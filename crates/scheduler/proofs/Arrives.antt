@@ -20,7 +20,7 @@ use Rattle.room.specs.declared.Packet.{Packet}
 use Rattle.room.specs.Room.{Room}
 use Rattle.state.specs.declared.Scheduler.{Scheduler}
 use Rattle.state.specs.Counts.{admissionsOf}
-use Rattle.state.specs.Refusals.{arrivalTests}
+use Rattle.acceptance.specs.Refusals.{arrivalTests}
 use Rattle.scheduler.specs.Calls.{packetOf, admitOf, admitRoom, arriving, arrivingRoom, arrivalRefusal, arriveOf, arriveRoom}
 use Rattle.scheduler.specs.Values.{admissionValues}
 use Rattle.scheduler.specs.Machine.{Made, bytes, instant, made}

@@ -14,7 +14,7 @@ use Rattle.rules.specs.Line.{Packet, Carried, nothing, markedOne, unmarkedOne}
 use Rattle.rules.specs.Extra.{span, spans}
 use Rattle.rules.specs.Delay.{orElse, onlyIf, onLine, smallerOf, lastExtra, gap}
 use Rattle.rules.proofs.Planned.{Planned}
-use Rattle.state.specs.Delays.{pick, isUnmarked}
+use Rattle.delays.specs.Delays.{pick, isUnmarked}
 use Rattle.scheduler.specs.Represents.{gapsFrom, markingOn, extraOn, IfAny}
 
 -- The rule of the code and the rule of the rules, on an unmarked packet that waits.

@@ -22,7 +22,7 @@ use Rattle.room.specs.Room.{Room}
 use Rattle.room.specs.Held.{Sized}
 use Rattle.state.specs.declared.Tallies.{Tallies}
 use Rattle.state.specs.declared.Scheduler.{Scheduler}
-use Rattle.state.specs.Steps.{freshOf}
+use Rattle.state.specs.Parts.{freshOf}
 use Rattle.scheduler.specs.Calls.{opening, openOf}
 use Rattle.scheduler.specs.Values.{openingNumber, tallyValues}
 use Rattle.scheduler.specs.Machine.{made, schedulerAfter, roomAfter, valuesBy, packetsBy}

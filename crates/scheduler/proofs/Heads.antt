@@ -22,7 +22,8 @@ use Rattle.room.proofs.Ring.{held-behind}
 use Rattle.state.specs.declared.Scheduler.{Scheduler}
 use Rattle.state.specs.declared.Extra.{Extra}
 use Rattle.state.specs.Counts.{goneOf, waitingOf}
-use Rattle.state.specs.Delays.{dueOf, fitsOf}
+use Rattle.delays.specs.Delays.{fitsOf}
+use Rattle.acceptance.specs.Due.{dueOf}
 use Rattle.scheduler.specs.Calls.{headOf, timeOf, sentOf, firstNumber, firstPacket, aheadCount}
 use Rattle.scheduler.specs.Represents.{asPacket, numberOf, FirstIs, Represents}
 use Rattle.scheduler.proofs.Queues.{numbered-behind}

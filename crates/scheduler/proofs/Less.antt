@@ -16,7 +16,8 @@ use Rattle.rules.specs.Delay.{orElse, lastExtra}
 use Rattle.rules.proofs.Planned.{Planned, FirstFits, planned-shift}
 use Rattle.room.specs.Held.{Held}
 use Rattle.state.specs.declared.Extra.{Extra}
-use Rattle.state.specs.Delays.{pick, delayedOf, passedOf}
+use Rattle.delays.specs.Delays.{pick}
+use Rattle.started.specs.Started.{delayedOf, passedOf}
 use Rattle.scheduler.specs.Represents.{gapsFrom, gaps, FirstIs, IfAny}
 use Rattle.scheduler.proofs.Delays.{latest-later, latest-low}
 

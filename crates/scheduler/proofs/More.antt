@@ -16,7 +16,7 @@ use Rattle.rules.specs.Delay.{orElse, lastExtra}
 use Rattle.rules.proofs.Planned.{Planned}
 use Rattle.room.specs.Held.{Held}
 use Rattle.room.proofs.Ring.{held-more}
-use Rattle.state.specs.Delays.{pick}
+use Rattle.delays.specs.Delays.{pick}
 use Rattle.scheduler.specs.Represents.{gapsFrom, gaps, FirstIs, IfAny}
 use Rattle.scheduler.proofs.Delays.{gaps-more, length-gaps}
 

@@ -18,9 +18,9 @@ use Rattle.room.specs.Room.{Room, packetAt}
 use Rattle.state.specs.declared.Tallies.{Tallies}
 use Rattle.state.specs.declared.Scheduler.{Scheduler}
 use Rattle.state.specs.Counts.{admissionsOf, goneOf, waitsOf, Counted}
-use Rattle.state.specs.Delays.{dueOf}
-use Rattle.state.specs.Refusals.{arrivalTests, advanceTests}
-use Rattle.state.specs.Steps.{idleAt}
+use Rattle.state.specs.Parts.{idleAt}
+use Rattle.acceptance.specs.Due.{dueOf}
+use Rattle.acceptance.specs.Refusals.{arrivalTests, advanceTests}
 use Rattle.scheduler.specs.declared.Admission.{Admission}
 use Rattle.scheduler.specs.declared.Arrived.{Arrived}
 use Rattle.scheduler.specs.declared.Decision.{Decision}

@@ -20,7 +20,8 @@ use Rattle.room.specs.Room.{Room, packetAt}
 use Rattle.room.specs.Held.{Held}
 use Rattle.state.specs.declared.Scheduler.{Scheduler}
 use Rattle.state.specs.Counts.{admissionsOf, goneOf, waitingOf}
-use Rattle.state.specs.Refusals.{overdueOf, arrivalTests, advanceTests}
+use Rattle.acceptance.specs.Due.{overdueOf}
+use Rattle.acceptance.specs.Refusals.{arrivalTests, advanceTests}
 use Rattle.scheduler.specs.Calls.{headOf}
 use Rattle.scheduler.specs.Machine.{bytes, instant}
 use Rattle.scheduler.specs.Represents.{asPacket, Represents}

@@ -15,9 +15,12 @@ use Rattle.room.specs.declared.Packet.{Packet}
 use Rattle.room.specs.Room.{Room, packetAt, numberAt, differenceAt, withPacket, withDifference}
 use Rattle.state.specs.declared.Scheduler.{Scheduler}
 use Rattle.state.specs.Counts.{admissionsOf, goneOf, waitingOf, waitsOf}
-use Rattle.state.specs.Delays.{pick, dueOf, ownOf, fitsOf}
-use Rattle.state.specs.Refusals.{arrivalTests, advanceTests}
-use Rattle.state.specs.Steps.{freshOf, admittedUnmarked, admittedMarked, startedMarked, startedUnmarked, idleAt}
+use Rattle.state.specs.Parts.{freshOf, idleAt}
+use Rattle.delays.specs.Delays.{pick, ownOf, fitsOf}
+use Rattle.acceptance.specs.Due.{dueOf}
+use Rattle.acceptance.specs.Refusals.{arrivalTests, advanceTests}
+use Rattle.admitted.specs.Admitted.{admittedUnmarked, admittedMarked}
+use Rattle.started.specs.Started.{startedMarked, startedUnmarked}
 use Rattle.scheduler.specs.declared.Opening.{Opening}
 use Rattle.scheduler.specs.declared.Opened.{Opened}
 use Rattle.scheduler.specs.declared.Admission.{Admission}

@@ -101,8 +101,8 @@ fn admit_unmarked(
 {
     let number = state::admissions(scheduler.tallies) + 1;
     let waiting = state::waiting(Marking::Unmarked, scheduler.tallies);
-    let own = state::own_delay(scheduler.line, scheduler.extra, waiting, packet.arrival);
-    let less = state::difference(scheduler.extra, own);
+    let own = delays::own_delay(scheduler.line, scheduler.extra, waiting, packet.arrival);
+    let less = delays::difference(scheduler.extra, own);
     room::enter(
         scheduler.tallies.admitted.unmarked,
         number,
@@ -113,7 +113,7 @@ fn admit_unmarked(
     let time = units::transmission_time(scheduler.settings, packet.length);
     Arrived {
         answer: Admission::Unmarked { number, extra: own },
-        scheduler: state::admit_unmarked(scheduler, time, own, packet.arrival),
+        scheduler: admitted::admit_unmarked(scheduler, time, own, packet.arrival),
     }
 }
 
@@ -125,7 +125,7 @@ fn admit_marked(scheduler: Scheduler, packet: Packet) -> Arrived
     let number = state::admissions(scheduler.tallies) + 1;
     Arrived {
         answer: Admission::Marked { number },
-        scheduler: state::admit_marked(scheduler, packet.arrival),
+        scheduler: admitted::admit_marked(scheduler, packet.arrival),
     }
 }
 
@@ -172,7 +172,7 @@ pub fn arrive(
 {
     let rank = state::gone(scheduler.tallies);
     let head = room::packet_at(rank, markings, lengths, places, arrivals);
-    let refusal = state::arrival_refusal(scheduler, head.arrival, marking, length, at);
+    let refusal = acceptance::arrival_refusal(scheduler, head.arrival, marking, length, at);
     if refusal != 0 {
         return Arrived {
             answer: Admission::Refused(refusal),
@@ -208,7 +208,7 @@ fn sent(scheduler: Scheduler, head: Packet) -> bool
         Marking::Marked => {
             let waiting = state::waiting(Marking::Unmarked, scheduler.tallies);
             let time = units::transmission_time(scheduler.settings, head.length);
-            state::fits(scheduler.settings, scheduler.extra, waiting, time)
+            delays::fits(scheduler.settings, scheduler.extra, waiting, time)
         }
     }
 }
@@ -229,7 +229,7 @@ fn start_head(scheduler: Scheduler, head: Packet, due: Instant, at: Instant) -> 
     };
     Advanced {
         answer: Outcome::Decided(Decision::Started(start)),
-        scheduler: state::start_marked(scheduler, due, time, at),
+        scheduler: started::start_marked(scheduler, due, time, at),
     }
 }
 
@@ -264,7 +264,7 @@ fn start_first(
     };
     Advanced {
         answer: Outcome::Decided(Decision::Started(start)),
-        scheduler: state::start_unmarked(scheduler, due, time, less, dropped, at),
+        scheduler: started::start_unmarked(scheduler, due, time, less, dropped, at),
     }
 }
 
@@ -314,7 +314,7 @@ pub fn advance(
     requires { ⌜ FromOpening scheduler (columns (now markings) (now lengths) (now places) (now arrivals) (now numbers) (now differences)) ⌝ }
     ensures { λ r. ⌜ Advances scheduler (columns (now (markings .entry)) (now (lengths .entry)) (now (places .entry)) (now (arrivals .entry)) (now (numbers .entry)) (now (differences .entry))) at r ⌝ }
 {
-    let refused = state::advance_refusal(scheduler.clock, at);
+    let refused = acceptance::advance_refusal(scheduler.clock, at);
     if refused != 0 {
         return Advanced {
             answer: Outcome::Refused(refused),
@@ -329,7 +329,7 @@ pub fn advance(
     }
     let rank = state::gone(scheduler.tallies);
     let head = room::packet_at(rank, markings, lengths, places, arrivals);
-    let due = state::due(scheduler.line, head.arrival);
+    let due = acceptance::due(scheduler.line, head.arrival);
     if at.0 < due.0 {
         return Advanced {
             answer: Outcome::Decided(Decision::NothingDue),

@@ -1,5 +1,3 @@
 pub mod Counts
-pub mod Delays
-pub mod Refusals
-pub mod Steps
 pub mod Bounds
+pub mod Parts
