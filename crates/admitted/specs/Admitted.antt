@@ -10,7 +10,7 @@ use Rattle.state.specs.declared.Tallies.{Tallies}
 use Rattle.state.specs.declared.Scheduler.{Scheduler}
 use Rattle.state.specs.Counts.{waitingOf}
 use Rattle.state.specs.Parts.{scheduler, oneOf}
-use Rattle.delays.specs.Delays.{pick}
+use Rattle.state.specs.Pick.{pick}
 
 -- One more unmarked packet waits.
 abbrev pub joinedOf : Extra → (waiting : ℕ) → (time own : Ticks) → Extra

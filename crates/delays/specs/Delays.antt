@@ -9,11 +9,7 @@ use Rattle.units.specs.declared.Marking.{Marking}
 use Rattle.units.specs.declared.Marking.the-variants.{Unmarked, Marked}
 use Rattle.state.specs.declared.Line.{Line}
 use Rattle.state.specs.declared.Extra.{Extra}
-
--- One of two values, by a test.
-abbrev pub pick : {A : Type 0} → Bool → A → A → A
-pick true a b = a
-pick false a b = b
+use Rattle.state.specs.Pick.{pick}
 
 -- The marking as a test.
 abbrev pub isUnmarked : Marking → Bool

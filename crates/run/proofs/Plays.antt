@@ -7,9 +7,9 @@ use Rattle.units.specs.declared.Marking.{Marking}
 use Rattle.rules.specs.Step.{Call, arrive, advance}
 use Rattle.room.specs.Room.{Room}
 use Rattle.state.specs.declared.Scheduler.{Scheduler}
-use Rattle.scheduler.specs.declared.Arrived.{Arrived}
-use Rattle.scheduler.specs.declared.Advanced.{Advanced}
-use Rattle.scheduler.specs.Values.{admissionValues, advanceValues}
+use Rattle.answers.specs.declared.Arrived.{Arrived}
+use Rattle.answers.specs.declared.Advanced.{Advanced}
+use Rattle.answers.specs.Values.{admissionValues, advanceValues}
 use Rattle.scheduler.specs.Promises.{Arrives, Advances}
 use Rattle.text.specs.declared.Row.{Row}
 use Rattle.text.specs.Row.{Shows}

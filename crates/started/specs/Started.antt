@@ -11,7 +11,7 @@ use Rattle.state.specs.declared.Tallies.{Tallies}
 use Rattle.state.specs.declared.Scheduler.{Scheduler}
 use Rattle.state.specs.Counts.{waitingOf}
 use Rattle.state.specs.Parts.{scheduler, oneOf}
-use Rattle.delays.specs.Delays.{pick}
+use Rattle.state.specs.Pick.{pick}
 
 -- A marked packet started: every waiting unmarked packet is that much later.
 abbrev pub delayedOf : Extra → (waiting : ℕ) → (time : Ticks) → Extra

@@ -1,3 +1,4 @@
+pub mod Pick
 pub mod Counts
 pub mod Bounds
 pub mod Parts

@@ -8,8 +8,8 @@ use Rattle.room.specs.declared.Packet.{Packet}
 use Rattle.room.specs.Room.{Room, columns, codeOf, slotOf, turnOf}
 use Rattle.state.specs.declared.Scheduler.{Scheduler}
 use Rattle.state.specs.Counts.{admissionsOf}
-use Rattle.scheduler.specs.Calls.{newDelay, admitUnmarked, admitOf, admitRoom}
-use Rattle.scheduler.specs.declared.Arrived.{Arrived}
+use Rattle.admission.specs.Admit.{newDelay, admitUnmarked, admitOf, admitRoom}
+use Rattle.answers.specs.declared.Arrived.{Arrived}
 
 -- The four columns of a packet, with a packet put at this rank.
 pub record Put (r : Room) (rank : ℕ) (p : Packet) (m l q a : List ℕ) : Type 0 where

@@ -4,10 +4,10 @@ use mathlib.Core.Option.{Option, none, some}
 use Prim.Native.Nat.{ℕ}
 use Rattle.room.specs.declared.Packet.{Packet}
 use Rattle.state.specs.declared.Tallies.{Tallies}
-use Rattle.scheduler.specs.declared.Opening.{Opening}
-use Rattle.scheduler.specs.declared.Admission.{Admission}
-use Rattle.scheduler.specs.declared.Decision.{Decision}
-use Rattle.scheduler.specs.declared.Outcome.{Outcome}
+use Rattle.answers.specs.declared.Opening.{Opening}
+use Rattle.answers.specs.declared.Admission.{Admission}
+use Rattle.answers.specs.declared.Decision.{Decision}
+use Rattle.answers.specs.declared.Outcome.{Outcome}
 
 -- The number of an opening: 0 if it is not refused.
 abbrev pub openingNumber : Opening → ℕ

@@ -1,10 +1,10 @@
--- `scheduler::admit` meets its contract: each marking's admission, with the columns that `put` leaves. Assumes nothing.
+-- `admission::admit` meets its contract: each marking's admission, with the columns that `put` leaves. Assumes nothing.
 use mathlib.Core.Path.{refl}
-use Rattle.scheduler.proofs.Rooms.{unmarked-answer, unmarked-room, marked-room}
-use Rattle.scheduler.specs.Calls.{admitOf}
+use Rattle.admission.proofs.Rooms.{unmarked-answer, unmarked-room, marked-room}
+use Rattle.admission.specs.Admit.{admitOf}
 use borrow.Author.Needs.{needs}
-use Rattle.scheduler.proofs.admit.Statement.{statement}
-use Rattle.scheduler.proofs.admit.Tie as tie
+use Rattle.admission.proofs.admit.Statement.{statement}
+use Rattle.admission.proofs.admit.Tie as tie
 
 admissions-requires : tie.Need-admissions-requires
 admissions-requires c κs = search needs

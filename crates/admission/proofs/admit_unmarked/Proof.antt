@@ -1,7 +1,7 @@
--- `scheduler::admit_unmarked` meets its contract: it is the definition, with what the callees give and leave. Assumes nothing.
+-- `admission::admit_unmarked` meets its contract: it is the definition, with what the callees give and leave. Assumes nothing.
 use borrow.Author.Needs.{needs}
-use Rattle.scheduler.proofs.admit_unmarked.Statement.{statement}
-use Rattle.scheduler.proofs.admit_unmarked.Tie as tie
+use Rattle.admission.proofs.admit_unmarked.Statement.{statement}
+use Rattle.admission.proofs.admit_unmarked.Tie as tie
 
 admissions-requires : tie.Need-admissions-requires
 admissions-requires c κs = search needs
