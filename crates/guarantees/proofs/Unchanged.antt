@@ -15,14 +15,19 @@ use Rattle.room.specs.declared.Packet.{Packet}
 use Rattle.room.specs.Room.{Room}
 use Rattle.state.specs.declared.Scheduler.{Scheduler}
 use Rattle.state.specs.Counts.{waitsOf}
-use Rattle.state.specs.Delays.{pick, dueOf}
-use Rattle.state.specs.Refusals.{advanceTests}
-use Rattle.scheduler.specs.declared.Admission.{Admission}
-use Rattle.scheduler.specs.declared.Arrived.{Arrived}
-use Rattle.scheduler.specs.declared.Outcome.{Outcome}
-use Rattle.scheduler.specs.declared.Advanced.{Advanced}
-use Rattle.scheduler.specs.Calls.{headOf, packetOf, byMarking, admitUnmarked, admitMarked, admitOf, admitRoom, arrivalRefusal, arriveOf, arriveRoom, sentOf, startHead, startFirst, decideOf, nothingAt, waiting, advanceOf}
-use Rattle.scheduler.specs.Values.{admissionValues, advanceValues}
+use Rattle.state.specs.Pick.{pick}
+use Rattle.acceptance.specs.Due.{dueOf}
+use Rattle.acceptance.specs.Refusals.{advanceTests}
+use Rattle.answers.specs.declared.Admission.{Admission}
+use Rattle.answers.specs.declared.Arrived.{Arrived}
+use Rattle.answers.specs.declared.Outcome.{Outcome}
+use Rattle.answers.specs.declared.Advanced.{Advanced}
+use Rattle.state.specs.Pick.{byMarking}
+use Rattle.answers.specs.Packets.{headOf, packetOf}
+use Rattle.admission.specs.Admit.{admitUnmarked, admitMarked, admitOf, admitRoom}
+use Rattle.decision.specs.Decide.{sentOf, startHead, startFirst, decideOf}
+use Rattle.scheduler.specs.Calls.{arrivalRefusal, arriveOf, arriveRoom, nothingAt, waiting, advanceOf}
+use Rattle.answers.specs.Values.{admissionValues, advanceValues}
 use Rattle.scheduler.specs.Machine.{bytes, instant}
 use Rattle.guarantees.specs.Account.{RefusedUnchanged}
 

@@ -12,7 +12,7 @@ use Rattle.room.specs.Room.{Room}
 use Rattle.room.specs.Held.{Sized}
 use Rattle.state.specs.declared.Scheduler.{Scheduler}
 use Rattle.state.specs.Counts.{admissionsOf, goneOf}
-use Rattle.scheduler.specs.Values.{tallyValues}
+use Rattle.answers.specs.Values.{tallyValues}
 use Rattle.scheduler.specs.Machine.{made}
 use Rattle.guarantees.specs.Lines.{Begun, begunIn}
 use Rattle.guarantees.specs.Demands.{inForce, schedulerBy, linesBy}

@@ -6,7 +6,7 @@ use lib.Dec.{eqb}
 use lib.ListN.{getD}
 use Rattle.rules.specs.Step.{Call, arrive, advance}
 use Rattle.rules.specs.History.{Arrival}
-use Rattle.state.specs.Delays.{pick}
+use Rattle.state.specs.Pick.{pick}
 
 -- The line S n t e k.
 pub record Begun : Type 0 where

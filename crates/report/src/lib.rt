@@ -1,10 +1,10 @@
 // Answers as lines: the letter and the numbers that document 01 prints for each; pub functions serve the whole run.
 ghost use mathlib.Core.List.{[], _∷_};
 ghost use Rattle.text.specs.Row.{Shows};
-ghost use Rattle.scheduler.specs.Values.{admissionValues, decisionValues, advanceValues, tallyValues};
-use scheduler::Admission;
-use scheduler::Decision;
-use scheduler::Outcome;
+ghost use Rattle.answers.specs.Values.{admissionValues, decisionValues, advanceValues, tallyValues};
+use answers::Admission;
+use answers::Decision;
+use answers::Outcome;
 use state::Tallies;
 use text::Row;
 

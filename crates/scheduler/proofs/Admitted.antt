@@ -25,7 +25,8 @@ use Rattle.room.proofs.Ring.{held-more}
 use Rattle.room.proofs.Stored.{packet-other, packet-put, number-other, number-put, difference-other, difference-put, sized-packet, sized-difference}
 use Rattle.state.specs.declared.Scheduler.{Scheduler}
 use Rattle.state.specs.Counts.{admissionsOf, goneOf, waitingOf}
-use Rattle.scheduler.specs.Calls.{packetOf, newDelay, admitUnmarked, admitMarked, enteredRoom}
+use Rattle.answers.specs.Packets.{packetOf}
+use Rattle.admission.specs.Admit.{newDelay, admitUnmarked, admitMarked, enteredRoom}
 use Rattle.scheduler.specs.Machine.{bytes, instant}
 use Rattle.scheduler.specs.Represents.{asPacket, numberOf, FirstIs, extraOn, Represents}
 use Rattle.scheduler.proofs.Queues.{length-both, numbered-more}

@@ -11,7 +11,7 @@ use Rattle.room.specs.Room.{Room}
 use Rattle.room.specs.Held.{Sized}
 use Rattle.state.specs.declared.Scheduler.{Scheduler}
 use Rattle.scheduler.specs.Calls.{openOf}
-use Rattle.scheduler.specs.Values.{openingNumber, tallyValues}
+use Rattle.answers.specs.Values.{openingNumber, tallyValues}
 use Rattle.scheduler.specs.Machine.{Made, schedulerAfter, roomAfter, valuesBy, packetsBy}
 use Rattle.scheduler.specs.Represents.{startedPacket, Represents}
 

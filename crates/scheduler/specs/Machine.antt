@@ -12,7 +12,7 @@ use Rattle.room.specs.Room.{Room}
 use Rattle.room.specs.Held.{Sized}
 use Rattle.state.specs.declared.Scheduler.{Scheduler}
 use Rattle.scheduler.specs.Calls.{openOf, arriveOf, arriveRoom, advanceOf}
-use Rattle.scheduler.specs.Values.{admissionValues, advanceValues, handed}
+use Rattle.answers.specs.Values.{admissionValues, advanceValues, handed}
 
 -- What a call of the code makes: the scheduler, the room, the answer's values and the packet handed back.
 pub record Made : Type 0 where

@@ -10,9 +10,9 @@ use Rattle.rules.specs.Step.{Call}
 use Rattle.room.specs.Room.{Room}
 use Rattle.room.specs.Held.{Sized}
 use Rattle.state.specs.declared.Scheduler.{Scheduler}
-use Rattle.scheduler.specs.declared.Opened.{Opened}
-use Rattle.scheduler.specs.declared.Arrived.{Arrived}
-use Rattle.scheduler.specs.declared.Advanced.{Advanced}
+use Rattle.answers.specs.declared.Opened.{Opened}
+use Rattle.answers.specs.declared.Arrived.{Arrived}
+use Rattle.answers.specs.declared.Advanced.{Advanced}
 use Rattle.scheduler.specs.Calls.{openOf, arriveOf, arriveRoom, advanceOf}
 use Rattle.scheduler.specs.Machine.{schedulerAfter, roomAfter, FromOpening}
 

@@ -1,77 +1,26 @@
 // Runs document 01's printed case, the 65th waiting packet of each marking and the last instant through the three calls, and prints each answer
 // as the trace program does.
 ghost use mathlib.Core.Path.{_≡_};
+ghost use Prim.Native.Nat.{_+_, _-_, _≤_, _<_};
 ghost use lib.ListN.{length};
 ghost use Rattle.room.specs.Room.{columns};
 ghost use Rattle.scheduler.specs.Machine.{FromOpening};
-use scheduler::Admission;
-use scheduler::Decision;
-use scheduler::Outcome;
-use scheduler::Start;
 use state::Scheduler;
-use state::Tallies;
+use text::Row;
 use units::Bytes;
 use units::Instant;
 use units::Marking;
 use units::Settings;
 use units::Ticks;
 
-fn field(n: u64) {
-    io::write_all(1, b" ");
-    io::print_decimal(1, n);
-}
-
-fn line(letter: &[u8], n: u64) {
-    io::write_all(1, letter);
-    field(n);
-    io::write_all(1, b"\n");
-}
-
-fn print_admission(answer: Admission) {
-    match answer {
-        Admission::Unmarked { number, extra } => {
-            io::write_all(1, b"A");
-            field(number as u64);
-            field(extra.0);
-            io::write_all(1, b"\n");
-        }
-        Admission::Marked { number } => line(b"M", number as u64),
-        Admission::Refused(number) => line(b"R", number as u64),
-    }
-}
-
-fn print_start(start: Start) {
-    io::write_all(1, b"S");
-    field(start.number as u64);
-    field(start.at.0);
-    field(start.extra.0);
-    field(start.dropped as u64);
-    io::write_all(1, b"\n");
-}
-
-fn print_decision(decision: Decision) {
-    let Decision::Started(start) = decision else {
-        io::write_all(1, b"N\n");
-        return;
-    };
-    print_start(start);
-}
-
-fn print_outcome(answer: Outcome) {
-    match answer {
-        Outcome::Decided(decision) => print_decision(decision),
-        Outcome::Refused(number) => line(b"R", number as u64),
-    }
-}
-
-fn print_tallies(tallies: Tallies) {
-    io::write_all(1, b"T");
-    field(tallies.admitted.unmarked as u64);
-    field(tallies.admitted.marked as u64);
-    field(tallies.started.unmarked as u64);
-    field(tallies.started.marked as u64);
-    field(tallies.dropped as u64);
-    io::write_all(1, b"\n");
+// Prints a line, which has at most 107 bytes.
+fn print(row: Row)
+    requires { ⌜ (row .count ≤ 5) × (length (row .values) ≡ 5) ⌝ }
+{
+    let mut line = [0u8; 107];
+    let values = row.values;
+    let end = text::tell_line(&mut line, 0, row.letter, &values, row.count);
+    io::write_all(1, &line[..end]);
 }
 
 // Kind 1 is an unmarked arrival, any other but 3 a marked one.
@@ -110,7 +59,7 @@ fn call(
             differences,
         );
         let answer = advanced.answer;
-        print_outcome(answer);
+        print(report::advance(answer));
         return advanced.scheduler;
     }
     let marking = marking_of(kind);
@@ -128,50 +77,20 @@ fn call(
         differences,
     );
     let answer = arrived.answer;
-    print_admission(answer);
+    print(report::admission(answer));
     arrived.scheduler
 }
 
-// The same call some times over.
-fn repeat(
-    scheduler: Scheduler,
-    kind: u8,
-    length: u32,
-    at: u64,
-    times: u8,
-    markings: &mut [u8; 128],
-    lengths: &mut [u32; 128],
-    places: &mut [u32; 128],
-    arrivals: &mut [u64; 128],
-    numbers: &mut [u32; 64],
-    differences: &mut [u64; 64],
-) -> Scheduler
-    requires { ⌜ FromOpening scheduler (columns (now markings) (now lengths) (now places) (now arrivals) (now numbers) (now differences)) ⌝ }
-    ensures { λ r. ⌜ FromOpening r (columns (now (markings .exit)) (now (lengths .exit)) (now (places .exit)) (now (arrivals .exit)) (now (numbers .exit)) (now (differences .exit))) ⌝ }
+// The row of the k-th call, where the first row is called so many times more.
+fn row_of(k: usize, more: usize) -> usize
+    ensures { λ r. ⌜ r ≡ k - more ⌝ }
 {
-    let mut next = scheduler;
-    let mut done: u8 = 0;
-    while done < times {
-        next = call(
-            next,
-            kind,
-            length,
-            at,
-            markings,
-            lengths,
-            places,
-            arrivals,
-            numbers,
-            differences,
-        );
-        done += 1;
-    }
-    next
+    if k < more { 0 } else { k - more }
 }
 
-// A list of calls on a fresh scheduler, alpha 100 and 1 tick per byte, and the tally line.
-fn play(kinds: &[u8], spans: &[u32], instants: &[u64], times: &[u8])
-    requires { ⌜ (length (now spans) ≡ length (now kinds)) × (length (now instants) ≡ length (now kinds)) × (length (now times) ≡ length (now kinds)) ⌝ }
+// The calls of a table on a fresh scheduler, alpha 100 and 1 tick per byte, the first so many times more; and the tally line.
+fn play(more: usize, kinds: &[u8], spans: &[u32], instants: &[u64])
+    requires { ⌜ (0 < length (now kinds)) × (length (now spans) ≡ length (now kinds)) × (length (now instants) ≡ length (now kinds)) × (more + length (now kinds) ≤ 100) ⌝ }
 {
     let settings = Settings {
         alpha: Ticks(100),
@@ -185,14 +104,15 @@ fn play(kinds: &[u8], spans: &[u32], instants: &[u64], times: &[u8])
     let mut differences = [0u64; 64];
     let opened = scheduler::open(settings);
     let mut next = opened.scheduler;
-    let mut i: usize = 0;
-    while i < kinds.len() {
-        next = repeat(
+    let calls = more + kinds.len();
+    let mut k: usize = 0;
+    while k < calls {
+        let i = row_of(k, more);
+        next = call(
             next,
             kinds[i],
             spans[i],
             instants[i],
-            times[i],
             &mut markings,
             &mut lengths,
             &mut places,
@@ -200,9 +120,10 @@ fn play(kinds: &[u8], spans: &[u32], instants: &[u64], times: &[u8])
             &mut numbers,
             &mut differences,
         );
-        i += 1;
+        k += 1;
     }
-    print_tallies(next.tallies);
+    let tallies = next.tallies;
+    print(report::tallies(tallies));
 }
 
 // u50@0, m60@0, u40@0, a0, a50, m45@60, u30@70, u10@125, a110, a150, m101@160, u20@160, a170, m30@165.
@@ -212,9 +133,7 @@ const CASE_LENGTHS: [u32; 14] = [50, 60, 40, 0, 0, 45, 30, 10, 0, 0, 101, 20, 0,
 
 const CASE_INSTANTS: [u64; 14] = [0, 0, 0, 0, 50, 60, 70, 125, 110, 150, 160, 160, 170, 165];
 
-const CASE_TIMES: [u8; 14] = [1, 1, 1, 1, 1, 1, 1, 1, 1, 1, 1, 1, 1, 1];
-
-// 65 arrivals of one marking, a start, and one arrival more.
+// An arrival, with 64 more like it; a start; one arrival more.
 const FULL_UNMARKED: [u8; 3] = [1, 3, 1];
 
 const FULL_MARKED: [u8; 3] = [2, 3, 2];
@@ -222,8 +141,6 @@ const FULL_MARKED: [u8; 3] = [2, 3, 2];
 const FULL_LENGTHS: [u32; 3] = [1, 0, 1];
 
 const FULL_INSTANTS: [u64; 3] = [0, 0, 0];
-
-const FULL_TIMES: [u8; 3] = [65, 1, 1];
 
 // The latest instant, and one tick later.
 const LATE_KINDS: [u8; 4] = [1, 2, 3, 3];
@@ -237,11 +154,9 @@ const LATE_INSTANTS: [u64; 4] = [
     1_000_000_000_000_000,
 ];
 
-const LATE_TIMES: [u8; 4] = [1, 1, 1, 1];
-
 fn main() {
-    play(&CASE_KINDS, &CASE_LENGTHS, &CASE_INSTANTS, &CASE_TIMES);
-    play(&FULL_UNMARKED, &FULL_LENGTHS, &FULL_INSTANTS, &FULL_TIMES);
-    play(&FULL_MARKED, &FULL_LENGTHS, &FULL_INSTANTS, &FULL_TIMES);
-    play(&LATE_KINDS, &LATE_LENGTHS, &LATE_INSTANTS, &LATE_TIMES);
+    play(0, &CASE_KINDS, &CASE_LENGTHS, &CASE_INSTANTS);
+    play(64, &FULL_UNMARKED, &FULL_LENGTHS, &FULL_INSTANTS);
+    play(64, &FULL_MARKED, &FULL_LENGTHS, &FULL_INSTANTS);
+    play(0, &LATE_KINDS, &LATE_LENGTHS, &LATE_INSTANTS);
 }

@@ -1,5 +1,4 @@
+pub mod Pick
 pub mod Counts
-pub mod Delays
-pub mod Refusals
-pub mod Steps
 pub mod Bounds
+pub mod Parts

@@ -10,11 +10,11 @@ use Rattle.images.specs.Image.{eventAt}
 use Rattle.room.specs.Room.{Room}
 use Rattle.state.specs.declared.Tallies.{Tallies}
 use Rattle.state.specs.declared.Scheduler.{Scheduler}
-use Rattle.scheduler.specs.declared.Admission.{Admission}
-use Rattle.scheduler.specs.declared.Decision.{Decision}
-use Rattle.scheduler.specs.declared.Outcome.{Outcome}
+use Rattle.answers.specs.declared.Admission.{Admission}
+use Rattle.answers.specs.declared.Decision.{Decision}
+use Rattle.answers.specs.declared.Outcome.{Outcome}
 use Rattle.scheduler.specs.Calls.{openOf, arriveOf, advanceOf}
-use Rattle.scheduler.specs.Values.{admissionValues, decisionValues, advanceValues, tallyValues}
+use Rattle.answers.specs.Values.{admissionValues, decisionValues, advanceValues, tallyValues}
 use Rattle.scheduler.specs.Machine.{made, bytes, instant, schedulerAfter, roomAfter}
 use Rattle.text.specs.Row.{valuesText}
 use Rattle.text.proofs.Fields.{line-most}

@@ -13,9 +13,9 @@ use Rattle.rules.specs.Open.{opening}
 use Rattle.room.specs.Room.{Room, columns}
 use Rattle.room.specs.Held.{Sized}
 use Rattle.state.specs.declared.Scheduler.{Scheduler}
-use Rattle.scheduler.specs.declared.Opened.{Opened}
+use Rattle.answers.specs.declared.Opened.{Opened}
 use Rattle.scheduler.specs.Calls.{openOf}
-use Rattle.scheduler.specs.Values.{tallyValues}
+use Rattle.answers.specs.Values.{tallyValues}
 use Rattle.scheduler.specs.Machine.{schedulerAfter}
 use Rattle.scheduler.specs.Promises.{Opens}
 use Rattle.scheduler.proofs.Follows.{all-faithful}

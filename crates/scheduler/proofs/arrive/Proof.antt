@@ -38,7 +38,7 @@ returns-2 c =
     let gone = c .before .before .before .before .before .before .before .before .before .before .before .before .before .before .gone in
     let head = c .before .before .before .before .before .before .before .before .before .packet-at in
     arrive-admits (start .args .scheduler) _ (start .args .marking) (start .args .length) (start .args .place) (start .args .at) (start .pre) _
-    (record { rank = gone .result; head = head .result; gone = gone .ensures; there = head .ensures; refusal = c .before .before .before .before .before .before .before .before .arrival-refusal .ensures }) _ _
+    (record { rank = gone .result; head = head .result; gone = gone .ensures; there = head .ensures; refusal = c .before .before .before .before .before .before .before .before .arrival-refusal .ensures }) (c .admit .result) _
     (c .before .before .before .before .before .before .before .if1 .left) (c .admit .ensures .0) (c .admit .ensures .1)
 
 pub arrive-spec : {M : Type 1} → statement M
