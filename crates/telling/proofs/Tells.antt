@@ -22,7 +22,7 @@ use Rattle.telling.specs.Trace.{callsOf}
 use Rattle.plays.specs.Plays.{Plays}
 use Rattle.telling.specs.Tells.{eventsText, Reached}
 use Rattle.scheduler.proofs.OneMore.{scheduler-more, room-more, values-more}
-use Rattle.telling.proofs.Lines.{lines-more}
+use Rattle.text.proofs.Lines.{lines-more}
 use Rattle.plays.proofs.Plays.{event-plays}
 
 module _ (image : List ℕ) (s : Scheduler) (r : Room) where

@@ -21,9 +21,10 @@ use Rattle.scheduler.specs.Promises.{Opens}
 use Rattle.scheduler.proofs.Follows.{all-faithful}
 use Rattle.text.specs.declared.Row.{Row}
 use Rattle.text.specs.Row.{valuesText, rowText, Shows}
-use Rattle.telling.specs.Trace.{linesText, callsOf, traceText}
+use Rattle.text.specs.Lines.{linesText}
+use Rattle.telling.specs.Trace.{callsOf, traceText}
 use Rattle.telling.specs.Tells.{eventsText}
-use Rattle.telling.proofs.Lines.{lines-more}
+use Rattle.text.proofs.Lines.{lines-more}
 
 module _ (image : List ℕ) (settings : Settings) (n : ℕ) (lent : Room) (sized : Sized lent) where
   pub by-code : traceText image settings n

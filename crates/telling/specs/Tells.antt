@@ -7,7 +7,8 @@ use Rattle.state.specs.declared.Scheduler.{Scheduler}
 use Rattle.scheduler.specs.Machine.{schedulerAfter, roomAfter, valuesBy, FromOpening}
 use Rattle.text.specs.Told as text
 use Rattle.telling.specs.declared.Told.{Told}
-use Rattle.telling.specs.Trace.{linesText, callsOf}
+use Rattle.text.specs.Lines.{linesText}
+use Rattle.telling.specs.Trace.{callsOf}
 
 -- The lines of the first k events, from the scheduler s over the room r.
 abbrev pub eventsText : List ℕ → Scheduler → Room → (k : ℕ) → List ℕ

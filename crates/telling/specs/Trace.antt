@@ -9,13 +9,8 @@ use Rattle.rules.specs.Printed.{lineOf, tallyLine}
 use Rattle.rules.specs.Open.{opening}
 use Rattle.images.specs.Image.{eventAt}
 use Rattle.lists.specs.Rows.{tab}
-use Rattle.text.specs.Row.{valuesText}
+use Rattle.text.specs.Lines.{linesText}
 use Rattle.plays.specs.Calls.{callOf}
-
--- The text of several lines, each given by its letter and numbers.
-abbrev pub linesText : List (List ℕ) → List ℕ
-linesText [] = []
-linesText (l ∷ ls) = valuesText l ++ linesText ls
 
 -- The first n events of an image as calls.
 abbrev pub callsOf : List ℕ → (n : ℕ) → List Call

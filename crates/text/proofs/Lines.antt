@@ -2,8 +2,8 @@
 use mathlib.Core.Path.{_≡_, refl, ap, _∙_}
 use mathlib.Core.List.{List, [], _∷_, _++_, append-assoc, append-nil}
 use Prim.Native.Nat.{ℕ}
 use Rattle.text.specs.Row.{valuesText}
-use Rattle.telling.specs.Trace.{linesText}
+use Rattle.text.specs.Lines.{linesText}
 
 pub lines-append : (a b : List (List ℕ)) → linesText (a ++ b) ≡ linesText a ++ linesText b
 lines-append [] b = refl
