@@ -1,5 +1,5 @@
 -- A view whose number is 0 lies in its area; any other is refused. Assumes nothing.
-use mathlib.Core.Path.{_≡_}
+use mathlib.Core.Path.{_≡_, refl}
 use mathlib.Core.List.{List}
 use mathlib.Core.Option.{none, some}
 use Prim.Native.Nat.{ℕ, _+_, _≤_}
@@ -7,7 +7,7 @@ use native.Mathlib.Omega.{arith}
 use lib.ListN.{length}
 use borrow.Author.Tests.{ltb-false}
 use Rattle.refusals.specs.First.{firstOf, numberOf}
-use Rattle.refusals.proofs.Laws.{passes, zero-none, nonzero-some}
+use Rattle.refusals.proofs.Laws.{passes, zero-none, number-some}
 use Rattle.payload.specs.View.{viewTests}
 
 module _ (area : List ℕ) (len place : ℕ) where
@@ -18,4 +18,4 @@ module _ (area : List ℕ) (len place : ℕ) where
   within h = ltb-false _ _ (passes (viewTests area len place) (fine h) .1 .0)
 
   pub refused : ¬ (numberOf (firstOf (viewTests area len place)) ≡ 0) → (n : ℕ) × (firstOf (viewTests area len place) ≡ some n)
-  refused h = nonzero-some (viewTests area len place) h
+  refused h = (_, number-some (firstOf (viewTests area len place)) _ refl h)

@@ -30,17 +30,18 @@ pub given : (P : ℕ → Type 0) (ts : List Test) (n : ℕ) → EachNumber P ts 
 given P [] n h e = absurd (Option·some-ne-none n (sym e))
 given P (t ∷ ts) n h e = given-by P (t .holds) (t .number) n (firstOf ts) (h .0) (given P ts n (h .1)) e
 
--- Where every number is at least 1, the number 0 says that there is no refusal, and any other that there is one.
-zero-none-of : (o : Option ℕ) → ((n : ℕ) → o ≡ some n → 1 ≤ n) → numberOf o ≡ 0 → o ≡ none
-zero-none-of none h e = refl
-zero-none-of (some n) h e = absurd (omega (arith, h n refl))
+-- No refusal has the number 0.
+abbrev pub Numbered : List Test → Type 0
+Numbered ts = EachNumber (λ (n : ℕ). 1 ≤ n) ts
 
-pub zero-none : (ts : List Test) → EachNumber (λ (n : ℕ). 1 ≤ n) ts → numberOf (firstOf ts) ≡ 0 → firstOf ts ≡ none
-zero-none ts h e = zero-none-of (firstOf ts) (λ n i. given (λ (n : ℕ). 1 ≤ n) ts n h i) e
+-- Then the number 0 says that there is no refusal, and any other is the first refusal's.
+none-of : (o : Option ℕ) → ((n : ℕ) → o ≡ some n → 1 ≤ n) → numberOf o ≡ 0 → o ≡ none
+none-of none h e = refl
+none-of (some n) h e = absurd (omega (arith, h n refl))
 
-nonzero-some-of : (o : Option ℕ) → ¬ (numberOf o ≡ 0) → (n : ℕ) × (o ≡ some n)
-nonzero-some-of none h = absurd (h refl)
-nonzero-some-of (some n) h = (n, refl)
+pub zero-none : (ts : List Test) → Numbered ts → numberOf (firstOf ts) ≡ 0 → firstOf ts ≡ none
+zero-none ts h e = none-of (firstOf ts) (λ n i. given (λ (n : ℕ). 1 ≤ n) ts n h i) e
 
-pub nonzero-some : (ts : List Test) → ¬ (numberOf (firstOf ts) ≡ 0) → (n : ℕ) × (firstOf ts ≡ some n)
-nonzero-some ts h = nonzero-some-of (firstOf ts) h
+pub number-some : (o : Option ℕ) (n : ℕ) → n ≡ numberOf o → ¬ (n ≡ 0) → o ≡ some n
+number-some none n e h = absurd (h e)
+number-some (some m) n e h = rw e
