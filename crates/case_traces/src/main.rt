@@ -1,6 +1,6 @@
 // Each refusal of the reader and the writer reached once, with its block and the lent memory shown, and a trace that fills 64 blocks.
+use block_layout::seal;
 use images::Reading;
-use layout::seal;
 use libc::STDOUT_FILENO;
 use reader::read;
 use units::Settings;
