@@ -1,12 +1,12 @@
--- `payload::part` meets its contract: the part where its number is 0, and an empty one where it is not. Assumes nothing.
+-- `areas::part` meets its contract: the part where its number is 0, and an empty one where it is not. Assumes nothing.
 use mathlib.Core.Path.{_≡_, refl, sym, _∙_}
 use Prim.Native.Nat.{_+_, _-_}
 use native.Mathlib.Omega.{arith}
 use denote.Ref.{now}
 use borrow.Author.Needs.{needs}
-use Rattle.payload.proofs.Laws.{fine, within, refused}
-use Rattle.payload.proofs.part.Statement.{statement}
-use Rattle.payload.proofs.part.Tie as tie
+use Rattle.areas.proofs.Laws.{fine, within, refused}
+use Rattle.areas.proofs.part.Statement.{statement}
+use Rattle.areas.proofs.part.Tie as tie
 
 part-refusal-requires : tie.Need-part-refusal-requires
 part-refusal-requires c κs = search needs

@@ -8,7 +8,7 @@ use lib.ListN.{length}
 use borrow.Author.Tests.{ltb-false}
 use Rattle.refusals.specs.First.{firstOf, numberOf}
 use Rattle.refusals.proofs.Laws.{passes, zero-none, number-some}
-use Rattle.payload.specs.View.{viewTests}
+use Rattle.areas.specs.Part.{viewTests}
 
 module _ (area : List ℕ) (len place : ℕ) where
   pub fine : numberOf (firstOf (viewTests area len place)) ≡ 0 → firstOf (viewTests area len place) ≡ none

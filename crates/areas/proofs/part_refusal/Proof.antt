@@ -1,8 +1,8 @@
--- `payload::part_refusal` meets its contract: each return follows from the tests before it. Assumes nothing.
+-- `areas::part_refusal` meets its contract: each return follows from the tests before it. Assumes nothing.
 use borrow.Author.Needs.{needs}
 use Rattle.units.proofs.Cases.{tests}
-use Rattle.payload.proofs.part_refusal.Statement.{statement}
-use Rattle.payload.proofs.part_refusal.Tie as tie
+use Rattle.areas.proofs.part_refusal.Statement.{statement}
+use Rattle.areas.proofs.part_refusal.Tie as tie
 
 length-in-range-requires : tie.Need-length-in-range-requires
 length-in-range-requires c κs = search needs
