@@ -1,6 +1,6 @@
 // Each refusal of the reader and the writer reached once, with its block and the lent memory shown, and a trace that fills 64 blocks.
+use block_layout::seal;
 use images::Reading;
-use layout::seal;
 use libc::STDOUT_FILENO;
 use reader::read;
 use units::Settings;
@@ -21,8 +21,11 @@ fn small(n: u8) {
     number(n as u64);
 }
 
-fn middle(n: u32) {
-    number(n as u64);
+fn entry(kind: u8, length: u32, place: u32, instant: u64) {
+    small(kind);
+    number(length as u64);
+    number(place as u64);
+    number(instant);
 }
 
 fn show_reading(r: Reading) {
@@ -61,10 +64,7 @@ fn reading(image: &[u8]) {
     let mut places = [77u32; 33];
     let mut instants = [77u64; 33];
     show_reading(read(image, &mut kinds, &mut lengths, &mut places, &mut instants));
-    small(kinds[0]);
-    middle(lengths[0]);
-    middle(places[0]);
-    number(instants[0]);
+    entry(kinds[0], lengths[0], places[0], instants[0]);
     small(kinds[32]);
     word(b"\n");
 }
@@ -94,96 +94,94 @@ fn store(image: &mut [u8], at: usize, value: u8) {
     }
 }
 
-fn reseal(image: &mut [u8]) {
-    if 1024 <= image.len() {
-        seal(image, 0);
-        seal(image, 512);
-    }
-}
-
-// Reads an image of two blocks with one byte changed and both checks made right again.
-fn changed(image: [u8; 1024], at: usize, value: u8) {
-    let mut other = image;
-    store(&mut other, at, value);
-    reseal(&mut other);
-    reading(&other);
-}
-
-// The same with the checks left as they were.
+// Reads an image of two blocks with one byte changed and the checks left as they were.
 fn torn(image: [u8; 1024], at: usize, value: u8) {
     let mut other = image;
     store(&mut other, at, value);
     reading(&other);
 }
 
-fn settings(alpha: u64, ticks: u16) -> Settings {
-    Settings {
-        alpha: Ticks(alpha),
-        ticks_per_byte: ticks,
-    }
+// The same with both checks made right again.
+fn changed(image: [u8; 1024], at: usize, value: u8) {
+    let mut other = image;
+    store(&mut other, at, value);
+    seal(&mut other, 0);
+    seal(&mut other, 512);
+    reading(&other);
 }
 
-// Writes a length-50 packet at place 7 and instant 9 for each kind, and shows the answer and the image's first byte, 55 before.
-fn writing(s: Settings, kinds: &[u8], lengths: &[u32], image: &mut [u8]) {
-    let places = [7u32; 32];
-    let instants = [9u64; 32];
-    show_writing(write(s, kinds, lengths, &places, &instants, image));
+// Writes a packet of one length at place 7 and instant 9 for each kind, and shows the answer.
+fn writing(alpha: u64, ticks: u16, kinds: &[u8], length: u32, image: &mut [u8]) {
+    let s = Settings {
+        alpha: Ticks(alpha),
+        ticks_per_byte: ticks,
+    };
+    show_writing(write(s, kinds, &[length; 32], &[7u32; 32], &[9u64; 32], image));
 }
 
 fn written() -> [u8; 1024] {
     let mut image = [55u8; 1024];
-    writing(settings(100, 1), &[1u8; 32], &[50u32; 32], &mut image);
+    writing(100, 1, &[1u8; 32], 50, &mut image);
     word(b"\n");
     image
 }
 
+// The refusals of settings, lengths and events.
+fn unwritable(image: &mut [u8]) {
+    writing(0, 1, &[1u8; 32], 50, image);
+    writing(100, 65, &[1u8; 32], 50, image);
+    writing(100, 1, &[1u8; 31], 50, image);
+    writing(100, 1, &[4u8; 32], 50, image);
+    writing(100, 1, &[1u8; 32], 2049, image);
+}
+
+// These and the refusal of an image one byte short, and the image of 55s after them.
 fn writer_cases() {
     let mut image = [55u8; 1024];
-    writing(settings(0, 1), &[1u8; 32], &[50u32; 32], &mut image);
-    writing(settings(100, 65), &[1u8; 32], &[50u32; 32], &mut image);
-    writing(settings(100, 1), &[1u8; 31], &[50u32; 32], &mut image);
-    writing(settings(100, 1), &[4u8; 32], &[50u32; 32], &mut image);
-    writing(settings(100, 1), &[1u8; 32], &[2049u32; 32], &mut image);
-    writing(settings(100, 1), &[1u8; 32], &[50u32; 32], &mut image[1..]);
+    unwritable(&mut image);
+    writing(100, 1, &[1u8; 32], 50, &mut image[1..]);
     small(image[0]);
     small(image[1023]);
+    word(b"\n");
+}
+
+// Writes as many advances, with zeros for lengths and places, and shows the answer.
+fn advances(kinds: &[u8], zeros: &[u32], instants: &[u64], image: &mut [u8]) {
+    let s = Settings {
+        alpha: Ticks(1_000_000),
+        ticks_per_byte: 64,
+    };
+    show_writing(write(s, kinds, zeros, zeros, instants, image));
+}
+
+// Reads into columns of 77s with room for one event more than a trace has, and shows the last two entries.
+fn reading_most(image: &[u8]) {
+    let mut kinds = [77u8; 1985];
+    let mut lengths = [77u32; 1985];
+    let mut places = [77u32; 1985];
+    let mut instants = [77u64; 1985];
+    show_reading(read(image, &mut kinds, &mut lengths, &mut places, &mut instants));
+    small(kinds[1983]);
+    small(kinds[1984]);
+    number(instants[1983]);
     word(b"\n");
 }
 
 // No event, one too many, and 1,984 events in 64 blocks, read again.
 fn counts() {
     let kinds = [3u8; 1985];
-    let lengths = [0u32; 1985];
-    let places = [0u32; 1985];
+    let zeros = [0u32; 1985];
     let instants = [1_000_000_000_000_000u64; 1985];
-    let s = settings(1_000_000, 64);
     let mut image = [55u8; 32768];
-    show_writing(write(
-        s,
-        &kinds[..0],
-        &lengths[..0],
-        &places[..0],
-        &instants[..0],
-        &mut image,
-    ));
-    show_writing(write(s, &kinds, &lengths, &places, &instants, &mut image));
-    show_writing(write(
-        s,
+    advances(&kinds[..0], &zeros[..0], &instants[..0], &mut image);
+    advances(&kinds, &zeros, &instants, &mut image);
+    advances(
         &kinds[..1984],
-        &lengths[..1984],
-        &places[..1984],
+        &zeros[..1984],
         &instants[..1984],
         &mut image,
-    ));
-    let mut back = [77u8; 1985];
-    let mut others = [77u32; 1985];
-    let mut more = [77u32; 1985];
-    let mut when = [77u64; 1985];
-    show_reading(read(&image, &mut back, &mut others, &mut more, &mut when));
-    small(back[1983]);
-    small(back[1984]);
-    number(when[1983]);
-    word(b"\n");
+    );
+    reading_most(&image);
 }
 
 fn main() {
