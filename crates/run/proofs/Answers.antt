@@ -12,7 +12,7 @@ use Rattle.images.specs.declared.Reading.{Reading}
 use Rattle.images.specs.declared.Reading.the-variants.{Accepted}
 use Rattle.images.specs.Image.{judged}
 use Rattle.images.proofs.Accepted.{whole, count-most}
-use Rattle.text.specs.Row.{valuesText}
+use Rattle.lines.specs.Text.{valuesText}
 use Rattle.text.specs.Told.{Told}
 use Rattle.run.specs.Text.{readText, textOf}
 use Rattle.run.specs.Ran.{Answers}

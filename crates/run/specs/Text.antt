@@ -4,7 +4,7 @@ use Prim.Native.Nat.{ℕ}
 use Rattle.images.specs.declared.Reading.{Reading}
 use Rattle.images.specs.declared.Reading.the-variants.{Accepted, Refused}
 use Rattle.images.specs.Image.{judged}
-use Rattle.text.specs.Row.{valuesText}
+use Rattle.lines.specs.Text.{valuesText}
 use Rattle.telling.specs.Trace.{traceText}
 
 -- A refused image gives only X, the number and the block's index.

@@ -3,7 +3,7 @@ ghost use mathlib.Core.Path.{_≡_};
 ghost use Prim.Native.Nat.{_+_, _^_, _≤_, _<_};
 ghost use lib.ListN.{length, take};
 ghost use Rattle.decimal.specs.Put.{Put};
-ghost use Rattle.text.specs.Row.{fieldText, fieldsText, lineText};
+ghost use Rattle.lines.specs.Text.{fieldText, fieldsText, lineText};
 ghost use Rattle.text.specs.Told.{Told};
 use decimal::decimal_length;
 use decimal::put_byte;

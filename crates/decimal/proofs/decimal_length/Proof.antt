@@ -4,8 +4,8 @@ use Prim.Native.Nat.{_+_, _≤_}
 use native.Mathlib.Omega.{arith}
 use lib.ListN.{length}
 use borrow.Author.Needs.{needs}
-use Rattle.decimal.specs.Decimal.{decimal}
-use Rattle.decimal.proofs.Digits.{one-digit, length-last, decimal-most}
+use Rattle.lines.specs.Text.{decimal}
+use Rattle.lines.proofs.Digits.{one-digit, length-last, decimal-most}
 use Rattle.decimal.proofs.decimal_length.Statement.{statement}
 use Rattle.decimal.proofs.decimal_length.Tie as tie
 

@@ -6,9 +6,8 @@ use native.Mathlib.Numerals.{add-one}
 use native.Mathlib.Omega.{arith}
 use lib.ListN.{length, take, drop, getD, length-append, length-take}
 use lib.Seq.{take-suc, take-add}
-use Rattle.text.specs.declared.Row.{Row}
-use Rattle.text.specs.Row.{fieldText, fieldsText, lineText, numbersOf, rowText}
-use Rattle.decimal.proofs.Digits.{decimal-most}
+use Rattle.lines.specs.Text.{fieldText, fieldsText, lineText}
+use Rattle.lines.proofs.Digits.{decimal-most}
 
 pub fields-append : (a b : List ℕ) → fieldsText (a ++ b) ≡ fieldsText a ++ fieldsText b
 fields-append [] b = refl

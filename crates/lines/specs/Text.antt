@@ -1,4 +1,4 @@
--- A number in decimal, without leading zeros. Assumes nothing.
+-- Numbers, lines and texts: a number in decimal without leading zeros, one space before each, one byte 10 at the end of a line. Assumes nothing.
 use mathlib.Core.Bool.{cond}
 use mathlib.Core.List.{List, [], _∷_, _++_}
 use Prim.Native.Nat.{ℕ, zero, suc, _+_, _/_, _%_}
@@ -26,3 +26,26 @@ four v = two (v / 100) ++ two (v % 100)
 
 abbrev pub eight : ℕ → List ℕ
 eight v = four (v / 10000) ++ four (v % 10000)
+
+-- A space and a number.
+abbrev pub fieldText : ℕ → List ℕ
+fieldText v = 32 ∷ decimal v
+
+abbrev pub fieldsText : List ℕ → List ℕ
+fieldsText [] = []
+fieldsText (v ∷ vs) = fieldText v ++ fieldsText vs
+
+-- A line: its letter, its numbers and its end.
+abbrev pub lineText : (letter : ℕ) → List ℕ → List ℕ
+lineText letter vs = letter ∷ (fieldsText vs ++ 10 ∷ [])
+
+-- The same by a list of letter and numbers.
+abbrev pub valuesText : List ℕ → List ℕ
+valuesText [] = []
+valuesText (letter ∷ vs) = lineText letter vs
+
+-- The text of several lines.
+abbrev pub linesText : List (List ℕ) → List ℕ
+linesText [] = []
+linesText ([] ∷ ls) = linesText ls
+linesText ((letter ∷ vs) ∷ ls) = lineText letter vs ++ linesText ls

@@ -8,7 +8,7 @@ use native.Mathlib.Omega.{arith}
 use lib.Dec.{ltb}
 use lib.ListN.{length, length-append}
 use borrow.Author.Tests.{lt-ltb, le-ltb}
-use Rattle.decimal.specs.Decimal.{digit, digitsIn, decimal, two, four, eight}
+use Rattle.lines.specs.Text.{digit, digitsIn, decimal, two, four, eight}
 
 -- Room for one digit more than there can be changes nothing.
 more : (f v : ℕ) → v < 10 ^ suc f → digitsIn (suc f) v ≡ digitsIn (suc (suc f)) v

@@ -2,7 +2,7 @@
 use mathlib.Core.Path.{_≡_}
 use mathlib.Core.List.{List, [], _∷_, _++_}
 use Prim.Native.Nat.{ℕ, _^_, _<_}
-use Rattle.text.specs.Row.{lineText}
+use Rattle.lines.specs.Text.{lineText}
 
 -- Numbers of 64 bits, and larger ones of up to 20 digits.
 abbrev pub Printable : List ℕ → Type 0

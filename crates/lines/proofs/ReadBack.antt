@@ -7,9 +7,8 @@ use native.Mathlib.Nat.{pow-suc}
 use native.Mathlib.Omega.{arith}
 use lib.Dec.{ltb}
 use borrow.Author.Tests.{ltb-false}
-use Rattle.decimal.specs.Decimal.{digit, digitsIn, decimal}
-use Rattle.text.specs.Row.{fieldsText}
-use Rattle.text.specs.ReadBack.{Printable, LinesReadBack}
+use Rattle.lines.specs.Text.{digit, digitsIn, decimal, fieldsText}
+use Rattle.lines.specs.ReadBack.{Printable, LinesReadBack}
 
 choose : {A : Type 0} (P : A → Type 0) (b : Bool) {x y : A} → (b ≡ true → P x) → (b ≡ false → P y) → P (cond b x y)
 choose P true p q = p refl

@@ -1,0 +1,1 @@
+// Numbers and lines as text: definitions in specs/, laws in proofs/.
