@@ -3,7 +3,8 @@ ghost use mathlib.Core.Path.{_≡_};
 ghost use mathlib.Core.List.{[], _∷_};
 ghost use Prim.Native.Nat.{_+_, _^_, _≤_, _<_};
 ghost use lib.ListN.{length};
-ghost use Rattle.lines.specs.Text.{decimal, two, four, eight};
+ghost use Rattle.lines.specs.Text.{decimal};
+ghost use Rattle.decimal.specs.Groups.{two, four, eight};
 ghost use Rattle.decimal.specs.Put.{Put};
 
 pub fn put_byte(out: &mut [u8], at: usize, b: u8) -> usize

@@ -8,11 +8,8 @@ use native.Mathlib.Omega.{arith}
 use lib.Dec.{ltb}
 use borrow.Author.Tests.{ltb-false}
 use Rattle.lines.specs.Text.{digit, digitsIn, decimal, fieldsText}
+use Rattle.lines.proofs.Digits.{choose}
 use Rattle.lines.specs.ReadBack.{Printable, LinesReadBack}
-
-choose : {A : Type 0} (P : A → Type 0) (b : Bool) {x y : A} → (b ≡ true → P x) → (b ≡ false → P y) → P (cond b x y)
-choose P true p q = p refl
-choose P false p q = q refl
 
 -- The number that digits stand for, behind those that stand for n.
 abbrev valueFrom : ℕ → List ℕ → ℕ

@@ -17,16 +17,6 @@ digitsIn (suc most) v = cond (ltb v 10) (digit v ∷ []) (digitsIn most (v / 10)
 unfoldable pub decimal : ℕ → List ℕ
 decimal v = digitsIn 20 v
 
--- The last two, four and eight digits of v, zeros included, if it has no more.
-abbrev pub two : ℕ → List ℕ
-two v = digit (v / 10) ∷ digit (v % 10) ∷ []
-
-abbrev pub four : ℕ → List ℕ
-four v = two (v / 100) ++ two (v % 100)
-
-abbrev pub eight : ℕ → List ℕ
-eight v = four (v / 10000) ++ four (v % 10000)
-
 -- A space and a number.
 abbrev pub fieldText : ℕ → List ℕ
 fieldText v = 32 ∷ decimal v

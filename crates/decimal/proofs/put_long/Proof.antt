@@ -1,7 +1,7 @@
 -- `decimal::put_long` meets its contract: the upper digits, then eight digits, once or twice. Assumes nothing.
 use Prim.Native.Nat.{_/_}
 use native.Mathlib.Omega.{arith}
-use Rattle.lines.proofs.Digits.{last-eight, length-eight}
+use Rattle.decimal.proofs.Groups.{last-eight, length-eight}
 use Rattle.decimal.proofs.Puts.{put-then}
 use borrow.Author.Needs.{needs}
 use Rattle.decimal.proofs.put_long.Statement.{statement}

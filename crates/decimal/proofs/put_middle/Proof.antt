@@ -1,6 +1,6 @@
 -- `decimal::put_middle` meets its contract: at most four digits, or four digits behind the others. Assumes nothing.
 use native.Mathlib.Omega.{arith}
-use Rattle.lines.proofs.Digits.{last-four, length-four}
+use Rattle.decimal.proofs.Groups.{last-four, length-four}
 use Rattle.decimal.proofs.Puts.{put-then}
 use borrow.Author.Needs.{needs}
 use Rattle.decimal.proofs.put_middle.Statement.{statement}

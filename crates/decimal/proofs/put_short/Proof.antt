@@ -2,7 +2,8 @@
 use mathlib.Core.Path.{ap}
 use native.Mathlib.Omega.{arith}
 use lib.ListN.{length}
-use Rattle.lines.proofs.Digits.{one-digit, two-digits, three-digits, four-digits}
+use Rattle.lines.proofs.Digits.{one-digit}
+use Rattle.decimal.proofs.Groups.{two-digits, three-digits, four-digits}
 use Rattle.decimal.proofs.Puts.{put-then}
 use borrow.Author.Needs.{needs}
 use Rattle.decimal.proofs.put_short.Statement.{statement}
