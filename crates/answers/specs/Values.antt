@@ -1,4 +1,4 @@
--- Document 01's letter, number and values for each case of each answer, as the trace program prints them. Assumes nothing.
+-- Document 01's number and values for each case of each answer: with their letter as the trace program prints them, and as five numbers. Assumes nothing.
 use mathlib.Core.List.{List, [], _∷_}
 use mathlib.Core.Option.{Option, none, some}
 use Prim.Native.Nat.{ℕ}
@@ -29,6 +29,20 @@ decisionValues Decision.NothingDue = 78 ∷ []
 abbrev pub advanceValues : Outcome → List ℕ
 advanceValues (Outcome.Decided d) = decisionValues d
 advanceValues (Outcome.Refused c) = 82 ∷ c ∷ []
+
+-- The same as five numbers: refusal, packet number, start, extra delay, packets dropped. Those that an answer has no use for are 0.
+abbrev pub admissionNumbers : Admission → List ℕ
+admissionNumbers (Admission.Unmarked n e) = 0 ∷ n ∷ 0 ∷ e .0 ∷ 0 ∷ []
+admissionNumbers (Admission.Marked n) = 0 ∷ n ∷ 0 ∷ 0 ∷ 0 ∷ []
+admissionNumbers (Admission.Refused c) = c ∷ 0 ∷ 0 ∷ 0 ∷ 0 ∷ []
+
+abbrev pub decisionNumbers : Decision → List ℕ
+decisionNumbers (Decision.Started x) = 0 ∷ x .number ∷ x .at .0 ∷ x .extra .0 ∷ x .dropped ∷ []
+decisionNumbers Decision.NothingDue = 0 ∷ 0 ∷ 0 ∷ 0 ∷ 0 ∷ []
+
+abbrev pub advanceNumbers : Outcome → List ℕ
+advanceNumbers (Outcome.Decided d) = decisionNumbers d
+advanceNumbers (Outcome.Refused c) = c ∷ 0 ∷ 0 ∷ 0 ∷ 0 ∷ []
 
 -- T and the five tallies.
 abbrev pub tallyValues : Tallies → List ℕ

@@ -68,8 +68,8 @@ module _ (s : Scheduler) (r : Room) (n : ℕ) where
 pub refused-unchanged : RefusedUnchanged
 unfolding arriveOf arriveRoom advanceOf
 refused-unchanged s r (arrive μ len place t) n h =
-    arrived s r n (eqb (arrivalRefusal s r μ (bytes len) (instant t)) 0) (arrivalRefusal s r μ (bytes len) (instant t))
-    (packetOf μ (bytes len) place (instant t)) h
+    let p : Packet = packetOf μ (bytes len) place (instant t) in
+    arrived s r n (eqb (arrivalRefusal s r p) 0) (arrivalRefusal s r p) p h
 refused-unchanged s r (advance t) n h =
     let k : ℕ = numberOf (firstOf (advanceTests (s .clock) (instant t))) in
     (advanced s r n (eqb k 0) k (instant t) h, refl)

@@ -1,6 +1,7 @@
 // How a Rattle host uses the scheduler: it opens one, lends it a waiting room, hands in a packet and asks what to send.
 use scheduler::Decision;
 use scheduler::Outcome;
+use scheduler::Packet;
 use units::Bytes;
 use units::Instant;
 use units::Marking;
@@ -27,36 +28,16 @@ fn main() {
         alpha: Ticks(100),
         ticks_per_byte: 1,
     };
-    let mut markings = [0u8; 128];
-    let mut lengths = [0u32; 128];
-    let mut places = [0u32; 128];
-    let mut arrivals = [0u64; 128];
-    let mut numbers = [0u32; 64];
-    let mut differences = [0u64; 64];
+    let mut room = room::empty();
     let opened = scheduler::open(settings);
-    let arrived = scheduler::arrive(
-        opened.scheduler,
-        Marking::Unmarked,
-        Bytes(50),
-        0,
-        Instant(7),
-        &mut markings,
-        &mut lengths,
-        &mut places,
-        &mut arrivals,
-        &mut numbers,
-        &mut differences,
-    );
-    let advanced = scheduler::advance(
-        arrived.scheduler,
-        Instant(9),
-        &markings,
-        &lengths,
-        &places,
-        &arrivals,
-        &numbers,
-        &differences,
-    );
+    let packet = Packet {
+        marking: Marking::Unmarked,
+        length: Bytes(50),
+        place: 0,
+        arrival: Instant(7),
+    };
+    let arrived = scheduler::arrive(opened.scheduler, packet, &mut room);
+    let advanced = scheduler::advance(arrived.scheduler, Instant(9), &room);
     let answer = advanced.answer;
     send(answer);
 }

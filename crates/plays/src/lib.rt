@@ -1,16 +1,17 @@
 // One event played on the scheduler: the line of text that it gives, and the scheduler from there on; for the crate `telling`.
 ghost use mathlib.Core.Path.{_≡_};
-ghost use Rattle.rules.specs.Step.{arrive, advance};
-ghost use Rattle.room.specs.Room.{columns};
+ghost use Rattle.rules.specs.Step.{advance};
 ghost use Rattle.scheduler.specs.Machine.{FromOpening};
+ghost use Rattle.scheduler.specs.Steps.{arrivalOf};
 ghost use Rattle.plays.specs.Calls.{callOf, comingCall};
 ghost use Rattle.plays.specs.Plays.{Plays};
 use events::Event;
+use room::Packet;
+use room::Room;
 use scheduler::advance;
 use scheduler::arrive;
 use state::Scheduler;
 use text::Row;
-use units::Bytes;
 use units::Instant;
 use units::Marking;
 
@@ -22,46 +23,15 @@ pub struct Played {
 
 // An event as the call that it is.
 pub enum Coming {
-    Arrival {
-        marking: Marking,
-        length: Bytes,
-        place: u32,
-        at: Instant,
-    },
-    Advance {
-        at: Instant,
-    },
+    Arrival(Packet),
+    Advance(Instant),
 }
 
-fn play_arrival(
-    scheduler: Scheduler,
-    marking: Marking,
-    length: Bytes,
-    place: u32,
-    at: Instant,
-    markings: &mut [u8; 128],
-    lengths: &mut [u32; 128],
-    places: &mut [u32; 128],
-    arrivals: &mut [u64; 128],
-    numbers: &mut [u32; 64],
-    differences: &mut [u64; 64],
-) -> Played
-    requires { ⌜ FromOpening scheduler (columns (now markings) (now lengths) (now places) (now arrivals) (now numbers) (now differences)) ⌝ }
-    ensures { λ r. ⌜ Plays scheduler (columns (now (markings .entry)) (now (lengths .entry)) (now (places .entry)) (now (arrivals .entry)) (now (numbers .entry)) (now (differences .entry))) (arrive marking (length .0) place (at .0)) r (columns (now (markings .exit)) (now (lengths .exit)) (now (places .exit)) (now (arrivals .exit)) (now (numbers .exit)) (now (differences .exit))) ⌝ }
+fn play_arrival(scheduler: Scheduler, packet: Packet, room: &mut Room) -> Played
+    requires { ⌜ FromOpening scheduler (now room) ⌝ }
+    ensures { λ r. ⌜ Plays scheduler (now (room .entry)) (arrivalOf packet) r (now (room .exit)) ⌝ }
 {
-    let arrived = arrive(
-        scheduler,
-        marking,
-        length,
-        place,
-        at,
-        markings,
-        lengths,
-        places,
-        arrivals,
-        numbers,
-        differences,
-    );
+    let arrived = arrive(scheduler, packet, room);
     let answer = arrived.answer;
     let left = arrived.scheduler;
     Played {
@@ -70,29 +40,11 @@ fn play_arrival(
     }
 }
 
-fn play_advance(
-    scheduler: Scheduler,
-    at: Instant,
-    markings: &[u8; 128],
-    lengths: &[u32; 128],
-    places: &[u32; 128],
-    arrivals: &[u64; 128],
-    numbers: &[u32; 64],
-    differences: &[u64; 64],
-) -> Played
-    requires { ⌜ FromOpening scheduler (columns (now markings) (now lengths) (now places) (now arrivals) (now numbers) (now differences)) ⌝ }
-    ensures { λ r. ⌜ Plays scheduler (columns (now (markings .entry)) (now (lengths .entry)) (now (places .entry)) (now (arrivals .entry)) (now (numbers .entry)) (now (differences .entry))) (advance (at .0)) r (columns (now (markings .entry)) (now (lengths .entry)) (now (places .entry)) (now (arrivals .entry)) (now (numbers .entry)) (now (differences .entry))) ⌝ }
+fn play_advance(scheduler: Scheduler, at: Instant, room: &Room) -> Played
+    requires { ⌜ FromOpening scheduler (now room) ⌝ }
+    ensures { λ r. ⌜ Plays scheduler (now (room .entry)) (advance (at .0)) r (now (room .entry)) ⌝ }
 {
-    let advanced = advance(
-        scheduler,
-        at,
-        markings,
-        lengths,
-        places,
-        arrivals,
-        numbers,
-        differences,
-    );
+    let advanced = advance(scheduler, at, room);
     let answer = advanced.answer;
     let left = advanced.scheduler;
     Played {
@@ -106,64 +58,29 @@ fn call_of(event: Event) -> Coming
     ensures { λ r. ⌜ comingCall r ≡ callOf event ⌝ }
 {
     match event {
-        Event::Unmarked { length, place, at } => Coming::Arrival {
+        Event::Unmarked { length, place, at } => Coming::Arrival(Packet {
             marking: Marking::Unmarked,
             length,
             place,
-            at,
-        },
-        Event::Marked { length, place, at } => Coming::Arrival {
+            arrival: at,
+        }),
+        Event::Marked { length, place, at } => Coming::Arrival(Packet {
             marking: Marking::Marked,
             length,
             place,
-            at,
-        },
-        Event::Advance { at } => Coming::Advance { at },
+            arrival: at,
+        }),
+        Event::Advance { at } => Coming::Advance(at),
     }
 }
 
 // Plays one event.
-pub fn play(
-    event: Event,
-    scheduler: Scheduler,
-    markings: &mut [u8; 128],
-    lengths: &mut [u32; 128],
-    places: &mut [u32; 128],
-    arrivals: &mut [u64; 128],
-    numbers: &mut [u32; 64],
-    differences: &mut [u64; 64],
-) -> Played
-    requires { ⌜ FromOpening scheduler (columns (now markings) (now lengths) (now places) (now arrivals) (now numbers) (now differences)) ⌝ }
-    ensures { λ r. ⌜ Plays scheduler (columns (now (markings .entry)) (now (lengths .entry)) (now (places .entry)) (now (arrivals .entry)) (now (numbers .entry)) (now (differences .entry))) (callOf event) r (columns (now (markings .exit)) (now (lengths .exit)) (now (places .exit)) (now (arrivals .exit)) (now (numbers .exit)) (now (differences .exit))) ⌝ }
+pub fn play(event: Event, scheduler: Scheduler, room: &mut Room) -> Played
+    requires { ⌜ FromOpening scheduler (now room) ⌝ }
+    ensures { λ r. ⌜ Plays scheduler (now (room .entry)) (callOf event) r (now (room .exit)) ⌝ }
 {
     match call_of(event) {
-        Coming::Arrival {
-            marking,
-            length,
-            place,
-            at,
-        } => play_arrival(
-            scheduler,
-            marking,
-            length,
-            place,
-            at,
-            markings,
-            lengths,
-            places,
-            arrivals,
-            numbers,
-            differences,
-        ),
-        Coming::Advance { at } => play_advance(
-            scheduler,
-            at,
-            markings,
-            lengths,
-            places,
-            arrivals,
-            numbers,
-            differences,
-        ),
+        Coming::Arrival(packet) => play_arrival(scheduler, packet, room),
+        Coming::Advance(at) => play_advance(scheduler, at, room),
     }
 }

@@ -6,12 +6,16 @@ use Prim.Native.Nat.{ℕ}
 use Rattle.units.specs.declared.Bytes.{Bytes}
 use Rattle.units.specs.declared.Instant.{Instant}
 use Rattle.units.specs.declared.Settings.{Settings}
-use Rattle.rules.specs.Step.{Call, arrive, advance}
+use Rattle.rules.specs.Terms.{Terms, termsOf}
+use Rattle.rules.specs.Line.{Line, fresh}
+use Rattle.rules.specs.Step.{Call, arrive, advance, after}
+use Rattle.rules.specs.Open as rules
 use Rattle.room.specs.declared.Packet.{Packet}
 use Rattle.room.specs.Room.{Room}
 use Rattle.room.specs.Held.{Sized}
 use Rattle.state.specs.declared.Scheduler.{Scheduler}
 use Rattle.scheduler.specs.Calls.{openOf, arriveOf, arriveRoom, advanceOf}
+use Rattle.answers.specs.Packets.{packetOf}
 use Rattle.answers.specs.Values.{admissionValues, advanceValues, handed}
 
 -- What a call of the code makes: the scheduler, the room, the answer's values and the packet handed back.
@@ -32,9 +36,9 @@ instant n = record { 0 = n }
 abbrev pub made : Scheduler → Room → Call → Made
 made s r (arrive μ len place t) =
     record {
-      scheduler = arriveOf s r μ (bytes len) place (instant t) .scheduler;
-      room = arriveRoom s r μ (bytes len) place (instant t);
-      values = admissionValues (arriveOf s r μ (bytes len) place (instant t) .answer);
+      scheduler = arriveOf s r (packetOf μ (bytes len) place (instant t)) .scheduler;
+      room = arriveRoom s r (packetOf μ (bytes len) place (instant t));
+      values = admissionValues (arriveOf s r (packetOf μ (bytes len) place (instant t)) .answer);
       packet = none;
     }
 made s r (advance t) =
@@ -62,7 +66,7 @@ unfoldable pub packetsBy : Scheduler → Room → List Call → List (Option Pac
 packetsBy s r [] = []
 packetsBy s r (c ∷ cs) = made s r c .packet ∷ packetsBy (made s r c .scheduler) (made s r c .room) cs
 
--- THE PREMISE of a call: this scheduler and room come from an opening, with columns of the lent lengths, and calls on them.
+-- THE PREMISE of a call: this scheduler and room come from an opening, with a room of the lent length, and calls on them.
 pub record FromOpening (s : Scheduler) (r : Room) : Type 0 where
   pub settings : Settings
   pub lent : Room
@@ -70,3 +74,10 @@ pub record FromOpening (s : Scheduler) (r : Room) : Type 0 where
   pub sized : Sized lent
   pub scheduler : s ≡ schedulerAfter (openOf settings .scheduler) lent calls
   pub room : r ≡ roomAfter (openOf settings .scheduler) lent calls
+
+-- WHAT THEY STAND FOR: the line of the rules after the same opening and the same calls, under the terms of the settings in force.
+abbrev pub termsBy : {s : Scheduler} {r : Room} → FromOpening s r → Terms
+termsBy o = termsOf (rules.opening (o .settings) .settings)
+
+abbrev pub lineBy : {s : Scheduler} {r : Room} → FromOpening s r → Line
+lineBy o = after (termsBy o) fresh (o .calls)

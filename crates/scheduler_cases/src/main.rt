@@ -3,8 +3,9 @@
 ghost use mathlib.Core.Path.{_≡_};
 ghost use Prim.Native.Nat.{_+_, _-_, _≤_, _<_};
 ghost use lib.ListN.{length};
-ghost use Rattle.room.specs.Room.{columns};
 ghost use Rattle.scheduler.specs.Machine.{FromOpening};
+use room::Packet;
+use room::Room;
 use state::Scheduler;
 use text::Row;
 use units::Bytes;
@@ -32,50 +33,23 @@ fn marking_of(kind: u8) -> Marking {
 }
 
 // One call, and its line. Kind 3 is an advance.
-fn call(
-    scheduler: Scheduler,
-    kind: u8,
-    length: u32,
-    at: u64,
-    markings: &mut [u8; 128],
-    lengths: &mut [u32; 128],
-    places: &mut [u32; 128],
-    arrivals: &mut [u64; 128],
-    numbers: &mut [u32; 64],
-    differences: &mut [u64; 64],
-) -> Scheduler
-    requires { ⌜ FromOpening scheduler (columns (now markings) (now lengths) (now places) (now arrivals) (now numbers) (now differences)) ⌝ }
-    ensures { λ r. ⌜ FromOpening r (columns (now (markings .exit)) (now (lengths .exit)) (now (places .exit)) (now (arrivals .exit)) (now (numbers .exit)) (now (differences .exit))) ⌝ }
+fn call(scheduler: Scheduler, kind: u8, length: u32, at: u64, room: &mut Room) -> Scheduler
+    requires { ⌜ FromOpening scheduler (now room) ⌝ }
+    ensures { λ r. ⌜ FromOpening r (now (room .exit)) ⌝ }
 {
     if kind == 3 {
-        let advanced = scheduler::advance(
-            scheduler,
-            Instant(at),
-            markings,
-            lengths,
-            places,
-            arrivals,
-            numbers,
-            differences,
-        );
+        let advanced = scheduler::advance(scheduler, Instant(at), room);
         let answer = advanced.answer;
         print(report::advance(answer));
         return advanced.scheduler;
     }
-    let marking = marking_of(kind);
-    let arrived = scheduler::arrive(
-        scheduler,
-        marking,
-        Bytes(length),
-        0,
-        Instant(at),
-        markings,
-        lengths,
-        places,
-        arrivals,
-        numbers,
-        differences,
-    );
+    let packet = Packet {
+        marking: marking_of(kind),
+        length: Bytes(length),
+        place: 0,
+        arrival: Instant(at),
+    };
+    let arrived = scheduler::arrive(scheduler, packet, room);
     let answer = arrived.answer;
     print(report::admission(answer));
     arrived.scheduler
@@ -96,30 +70,14 @@ fn play(more: usize, kinds: &[u8], spans: &[u32], instants: &[u64])
         alpha: Ticks(100),
         ticks_per_byte: 1,
     };
-    let mut markings = [0u8; 128];
-    let mut lengths = [0u32; 128];
-    let mut places = [0u32; 128];
-    let mut arrivals = [0u64; 128];
-    let mut numbers = [0u32; 64];
-    let mut differences = [0u64; 64];
+    let mut room = room::empty();
     let opened = scheduler::open(settings);
     let mut next = opened.scheduler;
     let calls = more + kinds.len();
     let mut k: usize = 0;
     while k < calls {
         let i = row_of(k, more);
-        next = call(
-            next,
-            kinds[i],
-            spans[i],
-            instants[i],
-            &mut markings,
-            &mut lengths,
-            &mut places,
-            &mut arrivals,
-            &mut numbers,
-            &mut differences,
-        );
+        next = call(next, kinds[i], spans[i], instants[i], &mut room);
         k += 1;
     }
     let tallies = next.tallies;

@@ -7,8 +7,8 @@ use Rattle.plays.proofs.play.Tie as tie
 call-of-requires : tie.Need-call-of-requires
 call-of-requires c κs = search needs
 
-enum-known-marking : tie.Need-enum-known-marking
-enum-known-marking c = search needs
+enum-known-packet : tie.Need-enum-known-packet
+enum-known-packet c = search needs
 
 play-arrival-requires : tie.Need-play-arrival-requires
 play-arrival-requires c κs = search needs
@@ -20,17 +20,21 @@ play-advance-requires : tie.Need-play-advance-requires
 play-advance-requires c κs = search needs
 
 returns : tie.Need-returns
-returns c = coming-plays (c .before .before .before .before .before .before .before .before .before .before .before .args .event) _ _ (c .before .before .before .before .before .before .before .before .before .before .call-of .ensures) (c .before .before .before .before .before .before .before .before .marking .given .1) (c .play-arrival .ensures)
+returns c =
+    let called = c .before .before .before .before .before in
+    coming-plays (called .before .args .event) _ _ (called .call-of .ensures) (c .before .before .before .packet .given .1) (c .play-arrival .ensures)
 
 returns-2 : tie.Need-returns-2
-returns-2 c = coming-plays (c .before .before .before .before .before .before .before .before .before .before .before .args .event) _ _ (c .before .before .before .before .before .before .before .before .before .before .call-of .ensures) (c .before .before .before .before .before .before .before .before .at .given .1) (c .play-advance .ensures)
+returns-2 c =
+    let called = c .before .before .before .before .before in
+    coming-plays (called .before .args .event) _ _ (called .call-of .ensures) (c .before .before .before .at .given .1) (c .play-advance .ensures)
 
 pub play-spec : {M : Type 1} → statement M
 play-spec =
     tie.close
     (tie.spec
     call-of-requires
-    enum-known-marking
+    enum-known-packet
     play-arrival-requires
     enum-known-at
     play-advance-requires

@@ -12,34 +12,34 @@ packet-at-requires : tie.Need-packet-at-requires
 packet-at-requires c κs = search needs
 
 arrival-refusal-requires : tie.Need-arrival-refusal-requires
-arrival-refusal-requires c κs = small _ _ (stands _ _ (c .before .before .before .before .before .before .pre)) .counted
+arrival-refusal-requires c κs = small _ _ (stands _ _ (c .before .before .before .pre)) .counted
 
 returns : tie.Need-returns
 returns c =
-    let start = c .before .before .before .before .before .before .before .before in
-    let gone = c .before .before .before .before .before .before .before .gone in
+    let start = c .before .before .before .before .before in
+    let gone = c .before .before .before .before .gone in
     let head = c .before .before .packet-at in
-    arrive-refuses (start .args .scheduler) _ (start .args .marking) (start .args .length) (start .args .place) (start .args .at) (start .pre) _
+    arrive-refuses (start .args .scheduler) _ (start .args .packet) (start .pre) _
     (record { rank = gone .result; head = head .result; gone = gone .ensures; there = head .ensures; refusal = c .before .arrival-refusal .ensures })
     (c .if1 .taken)
 
 admit-requires : tie.Need-admit-requires
 admit-requires c κs =
-    let start = c .before .before .before .before .before .before .before .before .before .before .before .before .before .before in
-    let gone = c .before .before .before .before .before .before .before .before .before .before .before .before .before .gone in
-    let head = c .before .before .before .before .before .before .before .before .packet-at in
-    arrive-may (start .args .scheduler) _ (start .args .marking) (start .args .length) (start .args .place) (start .args .at) (start .pre) _
-    (record { rank = gone .result; head = head .result; gone = gone .ensures; there = head .ensures; refusal = c .before .before .before .before .before .before .before .arrival-refusal .ensures })
-    (c .before .before .before .before .before .before .if1 .left)
+    let start = c .before .before .before .before .before .before in
+    let gone = c .before .before .before .before .before .gone in
+    let head = c .before .before .before .packet-at in
+    arrive-may (start .args .scheduler) _ (start .args .packet) (start .pre) _
+    (record { rank = gone .result; head = head .result; gone = gone .ensures; there = head .ensures; refusal = c .before .before .arrival-refusal .ensures })
+    (c .before .if1 .left)
 
 returns-2 : tie.Need-returns-2
 returns-2 c =
-    let start = c .before .before .before .before .before .before .before .before .before .before .before .before .before .before .before in
-    let gone = c .before .before .before .before .before .before .before .before .before .before .before .before .before .before .gone in
-    let head = c .before .before .before .before .before .before .before .before .before .packet-at in
-    arrive-admits (start .args .scheduler) _ (start .args .marking) (start .args .length) (start .args .place) (start .args .at) (start .pre) _
-    (record { rank = gone .result; head = head .result; gone = gone .ensures; there = head .ensures; refusal = c .before .before .before .before .before .before .before .before .arrival-refusal .ensures }) (c .admit .result) _
-    (c .before .before .before .before .before .before .before .if1 .left) (c .admit .ensures .0) (c .admit .ensures .1)
+    let start = c .before .before .before .before .before .before .before in
+    let gone = c .before .before .before .before .before .before .gone in
+    let head = c .before .before .before .before .packet-at in
+    arrive-admits (start .args .scheduler) _ (start .args .packet) (start .pre) _
+    (record { rank = gone .result; head = head .result; gone = gone .ensures; there = head .ensures; refusal = c .before .before .before .arrival-refusal .ensures })
+    (c .admit .result) _ (c .before .before .if1 .left) (c .admit .ensures .0) (c .admit .ensures .1)
 
 pub arrive-spec : {M : Type 1} → statement M
 arrive-spec =
