@@ -81,3 +81,9 @@ termsBy o = termsOf (rules.opening (o .settings) .settings)
 
 abbrev pub lineBy : {s : Scheduler} {r : Room} → FromOpening s r → Line
 lineBy o = after (termsBy o) fresh (o .calls)
+
+-- Another scheduler and room that come from an opening, and stand for the same line.
+pub record Alike {s : Scheduler} {r : Room} (o : FromOpening s r) (s′ : Scheduler) (r′ : Room) : Type 0 where
+  pub next : FromOpening s′ r′
+  pub terms : termsBy next ≡ termsBy o
+  pub stands : lineBy next ≡ lineBy o

@@ -3,13 +3,14 @@
 use mathlib.Core.Path.{_≡_}
 use mathlib.Core.List.{List}
 use mathlib.Core.Option.{none}
+use Prim.Native.Nat.{ℕ}
 use Rattle.units.specs.declared.Instant.{Instant}
 use Rattle.units.specs.declared.Settings.{Settings}
 use Rattle.rules.specs.Terms.{termsOf}
 use Rattle.rules.specs.Step.{Call, advance}
 use Rattle.rules.specs.Open as rules
 use Rattle.room.specs.declared.Packet.{Packet}
-use Rattle.room.specs.Room.{Room}
+use Rattle.room.specs.Room.{Room, withKept}
 use Rattle.room.specs.Held.{Sized}
 use Rattle.state.specs.declared.Scheduler.{Scheduler}
 use Rattle.answers.specs.declared.Opened.{Opened}
@@ -17,7 +18,7 @@ use Rattle.answers.specs.declared.Arrived.{Arrived}
 use Rattle.answers.specs.declared.Advanced.{Advanced}
 use Rattle.scheduler.specs.Calls.{openOf, arriveOf, arriveRoom, advanceOf}
 use Rattle.answers.specs.Values.{openingNumber, admissionValues, admissionNumbers, advanceValues, advanceNumbers, handed}
-use Rattle.scheduler.specs.Machine.{schedulerAfter, roomAfter, FromOpening, termsBy, lineBy}
+use Rattle.scheduler.specs.Machine.{schedulerAfter, roomAfter, FromOpening, termsBy, lineBy, Alike}
 use Rattle.scheduler.specs.Steps.{arrivalOf, Steps}
 
 -- Whatever room of the lent length is used from here on, it and the scheduler come from an opening, and stand for the rules' fresh line under
@@ -51,6 +52,10 @@ EveryList =
     → Sized lent
     → (cs : List Call)
     → FromOpening (schedulerAfter (openOf settings .scheduler) lent cs) (roomAfter (openOf settings .scheduler) lent cs)
+
+-- Whatever words a host keeps in the room, they and the calls leave each other alone.
+abbrev pub MayKeep : Type 0
+MayKeep = (s : Scheduler) (r : Room) (o : FromOpening s r) (k : ℕ) (ws : List ℕ) → Alike o s (withKept r k ws)
 
 -- Two results that a promise allows are equal.
 abbrev pub OneOpening : Type 0

@@ -46,7 +46,13 @@ pub fn arrive(scheduler: Scheduler, packet: Packet, room: &mut Room) -> Arrived
     let rank = state::gone(scheduler.tallies);
     let head = room::packet_at(rank, room);
     let marking = packet.marking;
-    let refusal = acceptance::arrival_refusal(scheduler, head.arrival, marking, packet.length, packet.arrival);
+    let refusal = acceptance::arrival_refusal(
+        scheduler,
+        head.arrival,
+        marking,
+        packet.length,
+        packet.arrival,
+    );
     if refusal != 0 {
         return Arrived {
             answer: Admission::Refused(refusal),
