@@ -5,7 +5,7 @@ ghost use Rattle.room.specs.Room.{columns};
 ghost use Rattle.scheduler.specs.Machine.{FromOpening};
 ghost use Rattle.plays.specs.Calls.{callOf, comingCall};
 ghost use Rattle.plays.specs.Plays.{Plays};
-use events::Event;
+use block_record::Event;
 use scheduler::advance;
 use scheduler::arrive;
 use state::Scheduler;
