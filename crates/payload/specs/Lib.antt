@@ -1,2 +1,3 @@
-pub mod View
+pub mod Part
 pub mod Unique
+pub mod View

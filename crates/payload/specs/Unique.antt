@@ -3,7 +3,7 @@ use mathlib.Core.Path.{_≡_}
 use mathlib.Core.List.{List}
 use Prim.Native.Nat.{ℕ}
 use denote.Ref.{RefT, now}
-use Rattle.areas.specs.Part.{Viewed}
+use Rattle.payload.specs.Part.{Viewed}
 
 -- Two views that it allows lie in the same place and hold the same bytes. (The number of a view is given by an equation, so it is one.)
 abbrev pub OneView : Type 0

@@ -1,12 +1,37 @@
 // The payload view: `view` and `view_refusal` are public calls; the marking names the area where a payload lies.
 ghost use mathlib.Core.Path.{_≡_};
 ghost use Rattle.refusals.specs.First.{firstOf, numberOf};
-ghost use Rattle.areas.specs.Part.{viewTests, Viewed};
+ghost use Rattle.payload.specs.Part.{viewTests, Viewed};
 ghost use Rattle.payload.specs.View.{areaOf};
-use areas::part;
-use areas::part_refusal;
 use units::Bytes;
 use units::Marking;
+use units::length_in_range;
+
+// The refusal number in one area, 0 if there is none.
+fn part_refusal(area: &[u8], length: Bytes, place: u32) -> u8
+    ensures { λ r. ⌜ r ≡ numberOf (firstOf (viewTests (now (area .entry)) (length .0) place)) ⌝ }
+{
+    if !length_in_range(length) {
+        return 1;
+    }
+    if (area.len() as u64) < (place as u64) + (length.0 as u64) {
+        return 31;
+    }
+    0
+}
+
+// That part of the area itself, or an empty part.
+fn part(area: &[u8], length: Bytes, place: u32) -> &[u8]
+    ensures { λ r. ⌜ Viewed (area .entry) (length .0) place r ⌝ }
+{
+    if part_refusal(area, length, place) == 0 {
+        let from = place as usize;
+        let to = from + (length.0 as usize);
+        &area[from..to]
+    } else {
+        &area[..0]
+    }
+}
 
 // The payload itself: that part of the area that the marking names, or an empty part.
 pub fn view<'a>(

@@ -5,7 +5,7 @@ ghost use Rattle.scheduler.specs.Machine.{FromOpening};
 ghost use Rattle.scheduler.specs.Steps.{arrivalOf};
 ghost use Rattle.plays.specs.Calls.{callOf, comingCall};
 ghost use Rattle.plays.specs.Plays.{Plays};
-use events::Event;
+use block_record::Event;
 use room::Packet;
 use room::Room;
 use scheduler::advance;

@@ -8,10 +8,10 @@ use lib.IntN.{ℤ, pos, negsuc}
 use lib.ListN.{length}
 use borrow.Author.Tests.{le-leb, lt-leb}
 use Rattle.units.specs.declared.Settings.{Settings}
-use Rattle.images.specs.declared.Reading.{Reading}
-use Rattle.images.specs.declared.Reading.the-variants.{Accepted}
-use Rattle.images.specs.Image.{judged}
-use Rattle.images.proofs.Accepted.{whole, count-most}
+use Rattle.block_image.specs.declared.Reading.{Reading}
+use Rattle.block_image.specs.declared.Reading.the-variants.{Accepted}
+use Rattle.block_image.specs.Image.{judged}
+use Rattle.block_image.proofs.Accepted.{whole, count-most}
 use Rattle.lines.specs.Text.{valuesText}
 use Rattle.text.specs.Told.{Told}
 use Rattle.run.specs.Text.{readText, textOf}

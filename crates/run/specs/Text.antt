@@ -1,9 +1,9 @@
 -- The text of an image: that of its trace, or the one line of a refused image. Assumes nothing.
 use mathlib.Core.List.{List, [], _∷_}
 use Prim.Native.Nat.{ℕ}
-use Rattle.images.specs.declared.Reading.{Reading}
-use Rattle.images.specs.declared.Reading.the-variants.{Accepted, Refused}
-use Rattle.images.specs.Image.{judged}
+use Rattle.block_image.specs.declared.Reading.{Reading}
+use Rattle.block_image.specs.declared.Reading.the-variants.{Accepted, Refused}
+use Rattle.block_image.specs.Image.{judged}
 use Rattle.lines.specs.Text.{valuesText}
 use Rattle.telling.specs.Trace.{traceText}
 
