@@ -12,8 +12,8 @@ use Rattle.block_image.specs.declared.Reading.{Reading}
 use Rattle.block_image.specs.declared.Reading.the-variants.{Accepted}
 use Rattle.block_image.specs.Image.{judged}
 use Rattle.block_image.proofs.Accepted.{whole, count-most}
-use Rattle.lines.specs.Text.{valuesText}
-use Rattle.text.specs.Told.{Told}
+use Rattle.text.specs.Text.{valuesText}
+use Rattle.text_lines.specs.Told.{Told}
 use Rattle.run.specs.Text.{readText, textOf}
 use Rattle.run.specs.Ran.{Answers}
 

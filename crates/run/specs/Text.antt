@@ -4,8 +4,8 @@ use Prim.Native.Nat.{ℕ}
 use Rattle.block_image.specs.declared.Reading.{Reading}
 use Rattle.block_image.specs.declared.Reading.the-variants.{Accepted, Refused}
 use Rattle.block_image.specs.Image.{judged}
-use Rattle.lines.specs.Text.{valuesText}
-use Rattle.telling.specs.Trace.{traceText}
+use Rattle.text.specs.Text.{valuesText}
+use Rattle.run_events.specs.Trace.{traceText}
 
 -- A refused image gives only X, the number and the block's index.
 abbrev pub refusedText : (number block : ℕ) → List ℕ

@@ -3,14 +3,14 @@ ghost use mathlib.Core.Path.{_≡_};
 ghost use Prim.Native.Nat.{_*_, _/_, _^_, _≤_, _<_};
 ghost use lib.IntN.{pos};
 ghost use lib.ListN.{length};
-ghost use Rattle.telling.specs.Trace.{traceText};
+ghost use Rattle.run_events.specs.Trace.{traceText};
 ghost use Rattle.run.specs.Text.{refusedText, textOf};
 ghost use Rattle.run.specs.Ran.{Answers};
 use block_image::Reading;
 use block_image::judge_image;
-use telling::tell_trace;
-use text::line_length;
-use text::tell_line;
+use run_events::tell_trace;
+use text_lines::line_length;
+use text_lines::tell_line;
 use units::Settings;
 
 // No event's line is longer than this, nor the tally line than that.
@@ -48,7 +48,7 @@ fn answer_trace(image: &[u8], settings: Settings, events: usize, answer: &mut [u
 fn answer_refused(number: u8, block: u32, answer: &mut [u8]) -> i64
     ensures { λ r. ⌜ Answers (refusedText number block) (now (answer .entry)) (now (answer .exit)) r ⌝ }
 {
-    let row = report::refused_image(number, block);
+    let row = text_answers::refused_image(number, block);
     let values = row.values;
     if answer.len() < line_length(&values, row.count) {
         return SHORT;

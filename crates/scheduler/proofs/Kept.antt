@@ -19,12 +19,12 @@ use Rattle.room.proofs.Keeping.{
   kept-past-packet,
   kept-past-entry,
 }
-use Rattle.state.specs.declared.Scheduler.{Scheduler}
-use Rattle.state.specs.Counts.{admissionsOf}
-use Rattle.state.specs.Pick.{pick, byMarking}
-use Rattle.admission.specs.Admit.{admitEntry, admitRoom}
-use Rattle.decision.specs.Decide.{startFirst, decideOf}
-use Rattle.answers.specs.Packets.{packetOf}
+use Rattle.scheduler_state.specs.declared.Scheduler.{Scheduler}
+use Rattle.scheduler_state.specs.Counts.{admissionsOf}
+use Rattle.scheduler_state.specs.Pick.{pick, byMarking}
+use Rattle.scheduler_admission.specs.Admit.{admitEntry, admitRoom}
+use Rattle.scheduler_decision.specs.Decide.{startFirst, decideOf}
+use Rattle.scheduler_answers.specs.Packets.{packetOf}
 use Rattle.scheduler.specs.Calls.{openOf, arrivalRefusal, arriveOf, arriving, arrivingRoom, arriveRoom, advanceOf}
 use Rattle.scheduler.specs.Machine.{bytes, instant, made, schedulerAfter, roomAfter, FromOpening}
 use Rattle.scheduler.specs.Promises.{MayKeep}

@@ -14,12 +14,12 @@ use Rattle.rules.specs.Printed.{lineOf, numbersOf}
 use Rattle.rules.specs.Open as asked
 use Rattle.room.specs.declared.Packet.{Packet}
 use Rattle.room.specs.Room.{Room}
-use Rattle.state.specs.declared.Scheduler.{Scheduler}
-use Rattle.state.specs.Pick.{pick}
-use Rattle.answers.specs.declared.Admission.{Admission}
-use Rattle.answers.specs.declared.Decision.{Decision}
-use Rattle.answers.specs.declared.Outcome.{Outcome}
-use Rattle.answers.specs.Values.{admissionValues, admissionNumbers, advanceValues, advanceNumbers}
+use Rattle.scheduler_state.specs.declared.Scheduler.{Scheduler}
+use Rattle.scheduler_state.specs.Pick.{pick}
+use Rattle.scheduler_answers.specs.declared.Admission.{Admission}
+use Rattle.scheduler_answers.specs.declared.Decision.{Decision}
+use Rattle.scheduler_answers.specs.declared.Outcome.{Outcome}
+use Rattle.scheduler_answers.specs.Values.{admissionValues, admissionNumbers, advanceValues, advanceNumbers}
 use Rattle.scheduler.specs.Calls.{openOf, arriveOf, advanceOf}
 use Rattle.scheduler.specs.Machine.{made, schedulerAfter, roomAfter, FromOpening, termsBy, lineBy}
 use Rattle.scheduler.specs.Represents.{startedPacket, Represents}

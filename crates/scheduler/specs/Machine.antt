@@ -13,10 +13,10 @@ use Rattle.rules.specs.Open as rules
 use Rattle.room.specs.declared.Packet.{Packet}
 use Rattle.room.specs.Room.{Room}
 use Rattle.room.specs.Held.{Sized}
-use Rattle.state.specs.declared.Scheduler.{Scheduler}
+use Rattle.scheduler_state.specs.declared.Scheduler.{Scheduler}
 use Rattle.scheduler.specs.Calls.{openOf, arriveOf, arriveRoom, advanceOf}
-use Rattle.answers.specs.Packets.{packetOf}
-use Rattle.answers.specs.Values.{admissionValues, advanceValues, handed}
+use Rattle.scheduler_answers.specs.Packets.{packetOf}
+use Rattle.scheduler_answers.specs.Values.{admissionValues, advanceValues, handed}
 
 -- What a call of the code makes: the scheduler, the room, the answer's values and the packet handed back.
 pub record Made : Type 0 where

@@ -12,12 +12,12 @@ use Rattle.rules.specs.Open as rules
 use Rattle.room.specs.declared.Packet.{Packet}
 use Rattle.room.specs.Room.{Room, withKept}
 use Rattle.room.specs.Held.{Sized}
-use Rattle.state.specs.declared.Scheduler.{Scheduler}
-use Rattle.answers.specs.declared.Opened.{Opened}
-use Rattle.answers.specs.declared.Arrived.{Arrived}
-use Rattle.answers.specs.declared.Advanced.{Advanced}
+use Rattle.scheduler_state.specs.declared.Scheduler.{Scheduler}
+use Rattle.scheduler_answers.specs.declared.Opened.{Opened}
+use Rattle.scheduler_answers.specs.declared.Arrived.{Arrived}
+use Rattle.scheduler_answers.specs.declared.Advanced.{Advanced}
 use Rattle.scheduler.specs.Calls.{openOf, arriveOf, arriveRoom, advanceOf}
-use Rattle.answers.specs.Values.{openingNumber, admissionValues, admissionNumbers, advanceValues, advanceNumbers, handed}
+use Rattle.scheduler_answers.specs.Values.{openingNumber, admissionValues, admissionNumbers, advanceValues, advanceNumbers, handed}
 use Rattle.scheduler.specs.Machine.{schedulerAfter, roomAfter, FromOpening, termsBy, lineBy, Alike}
 use Rattle.scheduler.specs.Steps.{arrivalOf, Steps}
 

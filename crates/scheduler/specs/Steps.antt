@@ -7,7 +7,7 @@ use Rattle.rules.specs.Step.{Call, Outcome, arrive, step}
 use Rattle.rules.specs.Printed.{lineOf, numbersOf}
 use Rattle.room.specs.declared.Packet.{Packet}
 use Rattle.room.specs.Room.{Room}
-use Rattle.state.specs.declared.Scheduler.{Scheduler}
+use Rattle.scheduler_state.specs.declared.Scheduler.{Scheduler}
 use Rattle.scheduler.specs.Machine.{FromOpening, termsBy, lineBy}
 use Rattle.scheduler.specs.Represents.{startedPacket}
 

@@ -2,17 +2,17 @@
 // its answers and of the room.
 ghost use Rattle.scheduler.specs.Machine.{FromOpening};
 ghost use Rattle.scheduler.specs.Promises.{Opens, Arrives, Advances};
-pub use answers::Admission;
-pub use answers::Advanced;
-pub use answers::Arrived;
-pub use answers::Decision;
-pub use answers::Opened;
-pub use answers::Opening;
-pub use answers::Outcome;
-pub use answers::Start;
 pub use room::Packet;
 pub use room::Room;
-use state::Scheduler;
+pub use scheduler_answers::Admission;
+pub use scheduler_answers::Advanced;
+pub use scheduler_answers::Arrived;
+pub use scheduler_answers::Decision;
+pub use scheduler_answers::Opened;
+pub use scheduler_answers::Opening;
+pub use scheduler_answers::Outcome;
+pub use scheduler_answers::Start;
+use scheduler_state::Scheduler;
 use units::Instant;
 use units::Settings;
 use units::Ticks;
@@ -25,7 +25,7 @@ pub fn open(settings: Settings) -> Opened
     if refusal == 0 {
         return Opened {
             answer: Opening::Ready,
-            scheduler: state::fresh(settings),
+            scheduler: scheduler_state::fresh(settings),
         };
     }
     let least = Settings {
@@ -34,7 +34,7 @@ pub fn open(settings: Settings) -> Opened
     };
     Opened {
         answer: Opening::Refused(refusal),
-        scheduler: state::fresh(least),
+        scheduler: scheduler_state::fresh(least),
     }
 }
 
@@ -43,10 +43,10 @@ pub fn arrive(scheduler: Scheduler, packet: Packet, room: &mut Room) -> Arrived
     requires { ⌜ FromOpening scheduler (now room) ⌝ }
     ensures { λ r. ⌜ Arrives scheduler (now (room .entry)) packet r (now (room .exit)) ⌝ }
 {
-    let rank = state::gone(scheduler.tallies);
+    let rank = scheduler_state::gone(scheduler.tallies);
     let head = room::packet_at(rank, room);
     let marking = packet.marking;
-    let refusal = acceptance::arrival_refusal(
+    let refusal = scheduler_refusals::arrival_refusal(
         scheduler,
         head.arrival,
         marking,
@@ -59,7 +59,7 @@ pub fn arrive(scheduler: Scheduler, packet: Packet, room: &mut Room) -> Arrived
             scheduler,
         };
     }
-    admission::admit(scheduler, packet, room)
+    scheduler_admission::admit(scheduler, packet, room)
 }
 
 // The clock moves on to `at`, and one decision is taken if one is due by then.
@@ -67,27 +67,27 @@ pub fn advance(scheduler: Scheduler, at: Instant, room: &Room) -> Advanced
     requires { ⌜ FromOpening scheduler (now room) ⌝ }
     ensures { λ r. ⌜ Advances scheduler (now (room .entry)) at r ⌝ }
 {
-    let refused = acceptance::advance_refusal(scheduler.clock, at);
+    let refused = scheduler_refusals::advance_refusal(scheduler.clock, at);
     if refused != 0 {
         return Advanced {
             answer: Outcome::Refused(refused),
             scheduler,
         };
     }
-    if !state::waits(scheduler.tallies) {
+    if !scheduler_state::waits(scheduler.tallies) {
         return Advanced {
             answer: Outcome::Decided(Decision::NothingDue),
-            scheduler: state::idle(scheduler, at),
+            scheduler: scheduler_state::idle(scheduler, at),
         };
     }
-    let rank = state::gone(scheduler.tallies);
+    let rank = scheduler_state::gone(scheduler.tallies);
     let head = room::packet_at(rank, room);
-    let due = acceptance::due(scheduler.line, head.arrival);
+    let due = scheduler_refusals::due(scheduler.line, head.arrival);
     if at.0 < due.0 {
         return Advanced {
             answer: Outcome::Decided(Decision::NothingDue),
-            scheduler: state::idle(scheduler, at),
+            scheduler: scheduler_state::idle(scheduler, at),
         };
     }
-    decision::decide(scheduler, head, due, at, room)
+    scheduler_decision::decide(scheduler, head, due, at, room)
 }

@@ -8,7 +8,7 @@ use Rattle.room.specs.Held.{Sized}
 use Rattle.room.proofs.Words.{joined-back}
 use Rattle.room.proofs.Stored.{marking-back}
 use Rattle.room.proofs.Keeping.{kept-there}
-use Rattle.state.specs.declared.Scheduler.{Scheduler}
+use Rattle.scheduler_state.specs.declared.Scheduler.{Scheduler}
 use Rattle.scheduler_kept.specs.Words.{schedulerWords}
 use Rattle.scheduler_kept.specs.Back.{KeptBack}
 

@@ -3,7 +3,7 @@ use mathlib.Core.Path.{_≡_}
 use Prim.Native.Nat.{_<_}
 use Rattle.room.specs.Room.{Room, withKept}
 use Rattle.room.specs.Held.{Sized}
-use Rattle.state.specs.declared.Scheduler.{Scheduler}
+use Rattle.scheduler_state.specs.declared.Scheduler.{Scheduler}
 use Rattle.scheduler_kept.specs.Words.{schedulerWords, schedulerIn}
 
 -- Whatever stood in the room: a scheduler kept there is the one that is read there. (Its ticks per byte are 16 bits wide in the code.)

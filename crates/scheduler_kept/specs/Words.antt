@@ -5,10 +5,10 @@ use Rattle.units.specs.declared.Instant.{Instant}
 use Rattle.units.specs.declared.Settings.{Settings}
 use Rattle.room.specs.Words.{lowOf, highOf, joinedOf}
 use Rattle.room.specs.Room.{Room, codeOf, markingOf, keptAt}
-use Rattle.state.specs.declared.Line.{Line}
-use Rattle.state.specs.declared.Extra.{Extra}
-use Rattle.state.specs.declared.Tallies.{Tallies}
-use Rattle.state.specs.declared.Scheduler.{Scheduler}
+use Rattle.scheduler_state.specs.declared.Line.{Line}
+use Rattle.scheduler_state.specs.declared.Extra.{Extra}
+use Rattle.scheduler_state.specs.declared.Tallies.{Tallies}
+use Rattle.scheduler_state.specs.declared.Scheduler.{Scheduler}
 
 -- A long number takes two words, its lower half first.
 abbrev pub long : ℕ → List ℕ

@@ -6,11 +6,11 @@ ghost use Rattle.scheduler_kept.specs.Words.{settingsWords, lineWords, e
 use room::Room;
 use room::keep_long;
 use room::kept_long;
-use state::Each;
-use state::Extra;
-use state::Line;
-use state::Scheduler;
-use state::Tallies;
+use scheduler_state::Each;
+use scheduler_state::Extra;
+use scheduler_state::Line;
+use scheduler_state::Scheduler;
+use scheduler_state::Tallies;
 use units::Instant;
 use units::Settings;
 use units::Ticks;

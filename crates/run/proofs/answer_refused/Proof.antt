@@ -6,9 +6,9 @@ use mathlib.Core.List.{List}
 use Prim.Native.Nat.{ℕ}
 use native.Mathlib.Omega.{arith}
 use lib.ListN.{length}
-use Rattle.lines.specs.Text.{valuesText}
-use Rattle.text.specs.Row.{numbersOf}
-use Rattle.lines.proofs.Fields.{line-length, fields-few}
+use Rattle.text.specs.Text.{valuesText}
+use Rattle.text_lines.specs.Row.{numbersOf}
+use Rattle.text.proofs.Fields.{line-length, fields-few}
 use Rattle.run.proofs.Answers.{answers-told, answers-short, told-as}
 use borrow.Author.Needs.{needs}
 use Rattle.run.proofs.answer_refused.Statement.{statement}

@@ -5,7 +5,7 @@ use native.Mathlib.Omega.{arith}
 use denote.Ref.{now}
 use mir.Syntax.{w64}
 use mir.Facts.{toZ-ofZ}
-use Rattle.telling.proofs.Most.{trace-most}
+use Rattle.run_events.proofs.Most.{trace-most}
 use Rattle.run.proofs.Answers.{answers-told, answers-short}
 use Rattle.run.proofs.answer_trace.Statement.{statement}
 use Rattle.run.proofs.answer_trace.Tie as tie

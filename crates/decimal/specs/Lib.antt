@@ -1,2 +1,0 @@
-pub mod Groups
-pub mod Put

@@ -1,4 +1,0 @@
-pub mod Digits
-pub mod Fields
-pub mod Lines
-pub mod ReadBack

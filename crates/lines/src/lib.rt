@@ -1,1 +1,0 @@
-// Numbers and lines as text: definitions in specs/, laws in proofs/.

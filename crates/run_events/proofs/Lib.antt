@@ -1,0 +1,4 @@
+pub mod Plays
+pub mod Tells
+pub mod Traces
+pub mod Most

@@ -1,0 +1,69 @@
+-- `run_events::tell_trace` meets its contract: the events' lines, then the tally line, are the rules' text. Assumes nothing.
+use native.Mathlib.Omega.{arith}
+use denote.Ref.{now}
+use Rattle.text_lines.proofs.Tells.{told-then}
+use Rattle.run_events.specs.Tells.{eventsText}
+use Rattle.run_events.proofs.Traces.{events-within, trace-text}
+use Rattle.run_events.proofs.Most.{trace-most}
+use borrow.Author.Needs.{needs}
+use Rattle.run_events.proofs.tell_trace.Statement.{statement}
+use Rattle.run_events.proofs.tell_trace.Tie as tie
+
+empty-requires : tie.Need-empty-requires
+empty-requires c κs = search needs
+
+open-requires : tie.Need-open-requires
+open-requires c κs = search needs
+
+tell-events-requires : tie.Need-tell-events-requires
+tell-events-requires c κs =
+    let o = c .before .before .before in
+    (o .«open» .ensures .kept _ (o .before .empty .ensures), o .before .before .before .before .pre)
+
+tallies-requires : tie.Need-tallies-requires
+tallies-requires c κs = search needs
+
+slice-aggregate-tell-line : tie.Need-slice-aggregate-tell-line
+slice-aggregate-tell-line c = search (needs, c .before .before .before .tallies2 .ensures .five)
+
+tell-line-requires : tie.Need-tell-line-requires
+tell-line-requires c κs =
+    let told = c .before .before .before .before .before .before .before .before in
+    let opened = told .before .before .before .before in
+    let lent = opened .before .empty in
+    let start = opened .before .before .before .before in
+    let a = start .args in
+    let w = told .tell-events .ensures in
+    let o = opened .«open» in
+    let t = c .before .before .before .tallies2 .ensures in
+    let within = events-within (now (a .image)) (a .settings) (a .events) (lent .result) (lent .ensures) (o .result) (o .ensures) in
+    let most = trace-most (now (a .image)) (a .settings) (a .events) in
+    (omega (arith, t .few, t .five), t .few, omega (arith, w .told .place, start .pre .1))
+
+same-length : tie.Need-same-length
+same-length c = search needs
+
+returns : tie.Need-returns
+returns c =
+    let told = c .before .before .before .before .before .before .before .before .before .before .before in
+    let opened = told .before .before .before .before in
+    let lent = opened .before .empty in
+    let a = opened .before .before .before .before .args in
+    let w = told .tell-events in
+    let o = opened .«open» in
+    let t = c .before .before .before .before .before .before .tallies2 in
+    rw (trace-text (now (a .image)) (a .settings) (a .events) (lent .result) (lent .ensures) (o .result) (o .ensures) (w .result .scheduler) (t .result) (w .ensures .scheduler) (t .ensures))
+    (told-then {xs = eventsText (now (a .image)) (o .result .scheduler) (lent .result) (a .events)} (w .ensures .told) (w .kept .1 .1 .1 .0) (c .before .before .tell-line .ensures))
+
+pub tell-trace-spec : {M : Type 1} → statement M
+tell-trace-spec =
+    tie.close
+    (tie.spec
+    empty-requires
+    open-requires
+    tell-events-requires
+    tallies-requires
+    slice-aggregate-tell-line
+    tell-line-requires
+    same-length
+    returns)

@@ -1,0 +1,148 @@
+// Events played on the scheduler, and the text of a trace told to a lent area; for the crate `run`. The waiting room is in its frame.
+ghost use mathlib.Core.Path.{_≡_};
+ghost use Rattle.rules.specs.Step.{advance};
+ghost use Rattle.scheduler.specs.Machine.{FromOpening};
+ghost use Rattle.scheduler.specs.Steps.{arrivalOf};
+ghost use Rattle.run_events.specs.Calls.{callOf, comingCall};
+ghost use Rattle.run_events.specs.Plays.{Plays};
+ghost use Prim.Native.Nat.{_*_, _/_, _≤_};
+ghost use lib.ListN.{length};
+ghost use Rattle.text_lines.specs.Told as told;
+ghost use Rattle.run_events.specs.Trace.{traceText};
+ghost use Rattle.run_events.specs.Tells.{Tells};
+use block_image::event_at;
+use block_record::Event;
+use room::Packet;
+use room::Room;
+use scheduler::advance;
+use scheduler::arrive;
+use scheduler::open;
+use scheduler_state::Scheduler;
+use text_lines::Row;
+use text_lines::tell_line;
+use units::Instant;
+use units::Marking;
+use units::Settings;
+
+// A line of the text, and the scheduler from there on.
+pub struct Played {
+    pub row: Row,
+    pub scheduler: Scheduler,
+}
+
+// An event as the call that it is.
+pub enum Coming {
+    Arrival(Packet),
+    Advance(Instant),
+}
+
+fn play_arrival(scheduler: Scheduler, packet: Packet, room: &mut Room) -> Played
+    requires { ⌜ FromOpening scheduler (now room) ⌝ }
+    ensures { λ r. ⌜ Plays scheduler (now (room .entry)) (arrivalOf packet) r (now (room .exit)) ⌝ }
+{
+    let arrived = arrive(scheduler, packet, room);
+    let answer = arrived.answer;
+    let left = arrived.scheduler;
+    Played {
+        row: text_answers::admission(answer),
+        scheduler: left,
+    }
+}
+
+fn play_advance(scheduler: Scheduler, at: Instant, room: &Room) -> Played
+    requires { ⌜ FromOpening scheduler (now room) ⌝ }
+    ensures { λ r. ⌜ Plays scheduler (now (room .entry)) (advance (at .0)) r (now (room .entry)) ⌝ }
+{
+    let advanced = advance(scheduler, at, room);
+    let answer = advanced.answer;
+    let left = advanced.scheduler;
+    Played {
+        row: text_answers::advance(answer),
+        scheduler: left,
+    }
+}
+
+// The call that an event is.
+fn call_of(event: Event) -> Coming
+    ensures { λ r. ⌜ comingCall r ≡ callOf event ⌝ }
+{
+    match event {
+        Event::Unmarked { length, place, at } => Coming::Arrival(Packet {
+            marking: Marking::Unmarked,
+            length,
+            place,
+            arrival: at,
+        }),
+        Event::Marked { length, place, at } => Coming::Arrival(Packet {
+            marking: Marking::Marked,
+            length,
+            place,
+            arrival: at,
+        }),
+        Event::Advance { at } => Coming::Advance(at),
+    }
+}
+
+// Plays one event.
+pub fn play(event: Event, scheduler: Scheduler, room: &mut Room) -> Played
+    requires { ⌜ FromOpening scheduler (now room) ⌝ }
+    ensures { λ r. ⌜ Plays scheduler (now (room .entry)) (callOf event) r (now (room .exit)) ⌝ }
+{
+    match call_of(event) {
+        Coming::Arrival(packet) => play_arrival(scheduler, packet, room),
+        Coming::Advance(at) => play_advance(scheduler, at, room),
+    }
+}
+
+// The place behind a text, and the scheduler after its events.
+pub struct Told {
+    pub next: usize,
+    pub scheduler: Scheduler,
+}
+
+// Tells the lines of the first events to the area, from its start.
+fn tell_events(
+    image: &[u8],
+    events: usize,
+    scheduler: Scheduler,
+    answer: &mut [u8],
+    room: &mut Room,
+) -> Told
+    requires { ⌜ FromOpening scheduler (now room) ⌝ }
+    requires { ⌜ (events ≤ 31 * (length (now image) / 512)) × (events ≤ 1984) ⌝ }
+    ensures { λ r. ⌜ Tells (now (image .entry)) events scheduler (now (room .entry)) (now (answer .entry)) (now (answer .exit)) r ⌝ }
+{
+    let mut then = scheduler;
+    let mut next = 0;
+    let mut k = 0;
+    while k < events {
+        let event = event_at(image, k);
+        let played = play(event, then, room);
+        let row = played.row;
+        then = played.scheduler;
+        let values = row.values;
+        next = tell_line(answer, next, row.letter, &values, row.count);
+        k += 1;
+    }
+    Told {
+        next,
+        scheduler: then,
+    }
+}
+
+// Tells the text of a trace to the area, and returns its length. The waiting room is in its frame.
+pub fn tell_trace(image: &[u8], settings: Settings, events: usize, answer: &mut [u8]) -> usize
+    requires { ⌜ (events ≤ 31 * (length (now image) / 512)) × (events ≤ 1984) ⌝ }
+    ensures { λ r. ⌜ told.Told (now (answer .entry)) 0 (traceText (now (image .entry)) settings events) (now (answer .exit)) r ⌝ }
+{
+    let mut room = room::empty();
+    let opened = open(settings);
+    let scheduler = opened.scheduler;
+    let told = tell_events(image, events, scheduler, answer, &mut room);
+    let then = told.scheduler;
+    let next = told.next;
+    let tallies = then.tallies;
+    let row = text_answers::tallies(tallies);
+    let values = row.values;
+    tell_line(answer, next, row.letter, &values, row.count)
+}

@@ -1,0 +1,3 @@
+pub mod Started
+pub mod Decide
+pub mod Bounds

@@ -1,0 +1,5 @@
+pub mod Pick
+pub mod Counts
+pub mod Bounds
+pub mod Parts
+pub mod Delays

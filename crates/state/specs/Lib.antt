@@ -1,4 +1,0 @@
-pub mod Pick
-pub mod Counts
-pub mod Bounds
-pub mod Parts

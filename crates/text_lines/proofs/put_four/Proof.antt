@@ -1,0 +1,20 @@
+-- `text_lines::put_four` meets its contract: two digits, then two digits. Assumes nothing.
+use Rattle.text_lines.proofs.Puts.{put-then}
+use borrow.Author.Needs.{needs}
+use Rattle.text_lines.proofs.put_four.Statement.{statement}
+use Rattle.text_lines.proofs.put_four.Tie as tie
+
+put-two-requires : tie.Need-put-two-requires
+put-two-requires c κs = search needs
+
+put-two-requires-2 : tie.Need-put-two-requires-2
+put-two-requires-2 c κs = search needs
+
+same-length : tie.Need-same-length
+same-length c = search needs
+
+returns : tie.Need-returns
+returns c = put-then (c .before .before .before .before .before .before .put-two .ensures) (c .before .before .put-two2 .ensures)
+
+pub put-four-spec : {M : Type 1} → statement M
+put-four-spec = tie.close (tie.spec put-two-requires put-two-requires-2 same-length returns)

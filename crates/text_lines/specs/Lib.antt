@@ -1,0 +1,4 @@
+pub mod Groups
+pub mod Put
+pub mod Row
+pub mod Told
