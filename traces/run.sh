@@ -12,8 +12,9 @@ such as traces/printed.trace, which is the default; - reads standard input.
 The first run proves the trace program, which takes some minutes. Later runs prove
 only what has changed since.
 
-Exit status 0: the text was shown; 1: the trace was refused, or the program was not
-proved or did not run, and no text was shown; 2: wrong use, or a tool is missing.
+Exit status 0: the text was shown; 1: the trace was refused, the program was not
+proved or did not run, or its text could not be written; 2: wrong use, or a tool is
+missing.
 END
 }
 
