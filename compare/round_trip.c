@@ -30,36 +30,76 @@ void round_trip(const struct trace *trace, const uint8_t *image, size_t length)
 
 #define SETTINGS "alpha 100 ticks 1\n"
 
+#define WRONG(text, line, word) { text, sizeof text - 1, line, word }
+
 static const struct {
     const char *text;
+    size_t length;
     size_t line;
     const char *word;
 } wrong_texts[] = {
-    { "", 0, "before the settings" },
-    { "# nothing\n\n", 2, "before the settings" },
-    { "u50@0\n", 1, "settings" },
-    { "alpha 100\nu50@0\n", 1, "ticks" },
-    { "alpha100 ticks 1\nu50@0\n", 1, "settings" },
-    { "alpha 0 ticks 1\nu50@0\n", 1, "alpha must be" },
-    { "alpha 1000001 ticks 1\nu50@0\n", 1, "alpha must be" },
-    { "alpha 100 ticks 0\nu50@0\n", 1, "ticks must be" },
-    { "alpha 100 ticks 65\nu50@0\n", 1, "ticks must be" },
-    { "alpha 100 ticks 1 2\nu50@0\n", 1, "nothing more" },
-    { SETTINGS, 1, "no event" },
-    { SETTINGS "# one\n\nx50@0\n", 4, "an event" },
-    { SETTINGS "u50\n", 2, "length@instant" },
-    { SETTINGS "u50@\n", 2, "length@instant" },
-    { SETTINGS "u-5@0\n", 2, "length@instant" },
-    { SETTINGS "u0@0\n", 2, "length must be" },
-    { SETTINGS "u1@0\nm2049@0\n", 3, "length must be" },
-    { SETTINGS "u1@1000000000000001\n", 2, "instant must be" },
-    { SETTINGS "a99999999999999999999999999999\n", 2, "instant must be" },
-    { SETTINGS "a\n", 2, "an instant" },
-    { SETTINGS "a5 place 1\n", 2, "nothing more" },
-    { SETTINGS "u1@0 place\n", 2, "place and a number" },
-    { SETTINGS "u1@0 place 4294967296\n", 2, "place must be" },
-    { SETTINGS "u1@0 place 1 2\n", 2, "nothing more" },
-    { SETTINGS "u1@0 7\n", 2, "place and a number" },
+    WRONG("", 1, "empty"),
+    WRONG("# nothing\n\n", 2, "before the settings"),
+    WRONG("u50@0\n", 1, "settings"),
+    WRONG("alpha 100\nu50@0\n", 1, "ticks"),
+    WRONG("alpha100 ticks 1\nu50@0\n", 1, "settings"),
+    WRONG("alpha 0 ticks 1\nu50@0\n", 1, "alpha must be"),
+    WRONG("alpha 1000001 ticks 1\nu50@0\n", 1, "alpha must be"),
+    WRONG("alpha 100 ticks 0\nu50@0\n", 1, "ticks must be"),
+    WRONG("alpha 100 ticks 65\nu50@0\n", 1, "ticks must be"),
+    WRONG("alpha 100 ticks 1 2\nu50@0\n", 1, "nothing more"),
+    WRONG(SETTINGS, 1, "without an event"),
+    WRONG(SETTINGS "# one\n\nx50@0\n", 4, "an event"),
+    WRONG(SETTINGS "u50\n", 2, "length@instant"),
+    WRONG(SETTINGS "u50@\n", 2, "length@instant"),
+    WRONG(SETTINGS "u-5@0\n", 2, "length@instant"),
+    WRONG(SETTINGS "u0@0\n", 2, "length must be"),
+    WRONG(SETTINGS "u1@0\nm2049@0\n", 3, "length must be"),
+    WRONG(SETTINGS "u1@1000000000000001\n", 2, "instant must be"),
+    WRONG(SETTINGS "a99999999999999999999999999999\n", 2, "instant must be"),
+    WRONG(SETTINGS "a\n", 2, "an instant"),
+    WRONG(SETTINGS "a5 place 1\n", 2, "nothing more"),
+    WRONG(SETTINGS "u1@0 place\n", 2, "place and a number"),
+    WRONG(SETTINGS "u1@0 place 4294967296\n", 2, "place must be"),
+    WRONG(SETTINGS "u1@0 place 1 2\n", 2, "nothing more"),
+    WRONG(SETTINGS "u1@0 7\n", 2, "place and a number"),
+    WRONG("alpha 100ticks 1\nu50@0\n", 1, "a blank, ticks"),
+    WRONG("alpha 100 ticks1\nu50@0\n", 1, "a blank, ticks"),
+    WRONG("alpha 100 ticks\nu50@0\n", 1, "a blank, ticks"),
+    WRONG("alpha -100 ticks 1\nu50@0\n", 1, "the settings"),
+    WRONG("alpha +100 ticks 1\nu50@0\n", 1, "the settings"),
+    WRONG("alpha 100 ticks 1x\nu50@0\n", 1, "nothing more"),
+    WRONG("alpha 100 ticks 1 u50@0\n", 1, "nothing more"),
+    WRONG("alpha 18446744073709551617 ticks 1\nu50@0\n", 1, "alpha must be"),
+    WRONG("alpha 100 ticks 18446744073709551617\nu50@0\n", 1, "ticks must be"),
+    WRONG("\xef\xbb\xbf" SETTINGS "u50@0\n", 1, "byte order mark"),
+    WRONG("\xff\xfe" "a\0l\0p\0h\0a\0", 1, "control character"),
+    WRONG(SETTINGS SETTINGS "u50@0\n", 2, "settings stand once"),
+    WRONG(SETTINGS "u50@0\n# again\n alpha 200 ticks 1\n", 4, "settings stand once"),
+    WRONG(SETTINGS "u50@0place 3\n", 2, "a blank, place"),
+    WRONG(SETTINGS "u50@0 place3\n", 2, "a blank, place"),
+    WRONG(SETTINGS "u50@0x\n", 2, "a blank, place"),
+    WRONG(SETTINGS "u50@0u50@0\n", 2, "a blank, place"),
+    WRONG(SETTINGS "u50@0 place 3x\n", 2, "nothing more"),
+    WRONG(SETTINGS "u50@0 place -3\n", 2, "a blank, place"),
+    WRONG(SETTINGS "u18446744073709551617@0\n", 2, "length must be"),
+    WRONG(SETTINGS "u1@18446744073709551616\n", 2, "instant must be"),
+    WRONG(SETTINGS "u1@0 place 18446744073709551616\n", 2, "place must be"),
+    WRONG(SETTINGS "u+5@0\n", 2, "length@instant"),
+    WRONG(SETTINGS "u5@-1\n", 2, "length@instant"),
+    WRONG(SETTINGS "u 5@0\n", 2, "length@instant"),
+    WRONG(SETTINGS "u5 @0\n", 2, "length@instant"),
+    WRONG(SETTINGS "u5@ 0\n", 2, "length@instant"),
+    WRONG(SETTINGS "U5@0\n", 2, "an event"),
+    WRONG(SETTINGS "a-1\n", 2, "an instant"),
+    WRONG(SETTINGS "a 5\n", 2, "an instant"),
+    WRONG(SETTINGS "a5x\n", 2, "nothing more"),
+    WRONG(SETTINGS "a5 a6\n", 2, "nothing more"),
+    WRONG(SETTINGS "u50@0\n\0a5\n", 3, "control character"),
+    WRONG(SETTINGS "u50@0 # \0\n", 2, "control character"),
+    WRONG(SETTINGS "u50@0\va5\n", 2, "control character"),
+    WRONG(SETTINGS "u50@0\x7f\n", 2, "control character"),
+    WRONG(SETTINGS "u50@0 # one\ra5\n", 2, "carriage return"),
 };
 
 static void hold_too_many_events(void)
@@ -80,8 +120,8 @@ static void hold_wrong_texts(void)
 {
     size_t count = sizeof wrong_texts / sizeof wrong_texts[0];
     for (size_t i = 0; i < count; i++) {
-        struct trace_error error = trace_from_text(wrong_texts[i].text,
-                                                   strlen(wrong_texts[i].text), &again);
+        struct trace_error error = trace_from_text(wrong_texts[i].text, wrong_texts[i].length,
+                                                   &again);
         if (error.word != NULL && error.line == wrong_texts[i].line
             && strstr(error.word, wrong_texts[i].word) != NULL)
             continue;

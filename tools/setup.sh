@@ -9,7 +9,9 @@ else
     export EMULATE="${EMULATE:-$kit/on/$(uname -m)/toolchain/bin/qemu-x86_64}"
 fi
 if ! command -v "$compiler" >/dev/null; then
-    apt-get -q update
     # shellcheck disable=SC2086
-    apt-get -qy install --no-install-recommends $packages
+    { apt-get -q update && apt-get -qy install --no-install-recommends $packages; } || {
+        printf '%s: cannot install %s; root can, on Debian and its like\n' "$0" "$packages" >&2
+        exit 2
+    }
 fi

@@ -1,10 +1,16 @@
-/* Turns trace text into an image (tracetext pack) and an image into text (tracetext unpack). */
+/* Turns trace text into an image (tracetext pack) and an image into text (tracetext unpack).
+ *
+ * Exit status 0: done; 1: the input is refused, or reading or writing failed, and nothing
+ * or a part was written; 2: called with other words. */
+#include <errno.h>
 #include <stdio.h>
 #include <string.h>
 
 #include "second_blocks.h"
 #include "trace_text.h"
-#include "whole_file.h"
+
+/* Ample for a trace with comments; an endless input ends here. */
+enum { INPUT_MOST = 1 << 20 };
 
 static struct trace trace;
 
@@ -12,7 +18,7 @@ static int put_out(const void *bytes, size_t length)
 {
     if (fwrite(bytes, 1, length, stdout) == length && fflush(stdout) == 0)
         return 0;
-    fprintf(stderr, "tracetext: cannot write\n");
+    fprintf(stderr, "tracetext: cannot write to standard output: %s\n", strerror(errno));
     return 1;
 }
 
@@ -39,25 +45,32 @@ static int unpack(const uint8_t *input, size_t length)
     return put_out(text, trace_to_text(&trace, text));
 }
 
+static int turn_input(int (*turn)(const uint8_t *, size_t))
+{
+    static uint8_t input[INPUT_MOST + 1];
+    size_t length = fread(input, 1, sizeof input, stdin);
+    if (ferror(stdin)) {
+        fprintf(stderr, "tracetext: cannot read standard input: %s\n", strerror(errno));
+        return 1;
+    }
+    if (length > INPUT_MOST) {
+        fprintf(stderr, "tracetext: the input is longer than %d bytes\n", INPUT_MOST);
+        return 1;
+    }
+    return turn(input, length);
+}
+
 int main(int count, char **words)
 {
-    int (*turn)(const uint8_t *, size_t) = NULL;
-    if (count == 2 && strcmp(words[1], "pack") == 0)
-        turn = pack;
-    else if (count == 2 && strcmp(words[1], "unpack") == 0)
-        turn = unpack;
-    if (turn == NULL) {
-        fprintf(stderr, "use: tracetext pack < text > image\n"
-                        "     tracetext unpack < image > text\n");
-        return 1;
-    }
-    size_t length;
-    uint8_t *input = whole_file(stdin, &length);
-    if (input == NULL) {
-        fprintf(stderr, "tracetext: cannot read\n");
-        return 1;
-    }
-    int status = turn(input, length);
-    free(input);
-    return status;
+    static const char use[] = "use: tracetext pack < text > image\n"
+                              "     tracetext unpack < image > text\n";
+    const char *word = count == 2 ? words[1] : "";
+    if (strcmp(word, "pack") == 0)
+        return turn_input(pack);
+    if (strcmp(word, "unpack") == 0)
+        return turn_input(unpack);
+    if (strcmp(word, "--help") == 0 || strcmp(word, "-h") == 0)
+        return put_out(use, strlen(use));
+    fputs(use, stderr);
+    return 2;
 }

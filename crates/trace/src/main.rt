@@ -6,8 +6,9 @@ use libc::STDOUT_FILENO;
 // One byte more than the largest image is enough to know that an image is too long.
 const IMAGE_MOST: usize = 32769;
 
-// Enough for any text of 1,984 events.
-const TEXT_MOST: usize = 170731;
+// Enough for any text, and little of a stack: 1,984 times 35 bytes, as no event's line is longer than
+// `S 1984 1000000000000000 1000000 64`, and 27 for the tally line.
+const TEXT_MOST: usize = 69467;
 
 // Whether the input broke off before its end, of which `got` bytes came.
 fn broke_off(got: usize) -> bool {
@@ -22,6 +23,10 @@ fn broke_off(got: usize) -> bool {
 fn tell(image: &[u8]) {
     let mut answer = [0u8; TEXT_MOST];
     let result = run::bilgethrum_run(image, &mut answer);
+    if result < 0 {
+        io::write_all(STDERR_FILENO, b"trace: the text does not fit its area\n");
+        return;
+    }
     let n = io::count(result as isize, &answer);
     if !io::write_all(STDOUT_FILENO, &answer[..n]) {
         io::write_all(STDERR_FILENO, b"trace: cannot write to standard output\n");
