@@ -7,7 +7,7 @@ use Prim.Native.Nat.{ℕ, _+_}
 use denote.Ref.{RefT, now}
 use lib.Dec.{ltb}
 use lib.ListN.{length, take, drop}
-use Rattle.refusals.specs.First.{Test, firstOf}
+use Rattle.refusals.specs.First.{Test, firstOf, numberOf}
 use Rattle.units.specs.Limits.{lengthInRange}
 
 -- Refusals of a view: 1 for the length, then 31 for a payload outside its area.
@@ -15,11 +15,16 @@ abbrev pub viewTests : (area : List ℕ) (len place : ℕ) → List Test
 viewTests area len place =
     record { number = 1; holds = not (lengthInRange len) } ∷ record { number = 31; holds = ltb (length area) (place + len) } ∷ []
 
+-- The refusal number of a view, 0 if there is none.
+abbrev pub viewRefusal : (area : List ℕ) (len place : ℕ) → ℕ
+viewRefusal area len place = numberOf (firstOf (viewTests area len place))
+
 -- The part of the area from the place, as long as the packet; on refusal that part is empty.
 abbrev pub partOf : Option ℕ → (area : List ℕ) (len place : ℕ) → List ℕ
 partOf none area len place = take len (drop place area)
 partOf (some n) area len place = []
 
+-- Where that part begins in the area.
 abbrev pub startOf : Option ℕ → (place : ℕ) → ℕ
 startOf none place = place
 startOf (some n) place = 0

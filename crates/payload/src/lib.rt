@@ -1,7 +1,6 @@
 // The payload view: `view` and `view_refusal` are public calls; the marking names the area where a payload lies.
 ghost use mathlib.Core.Path.{_≡_};
-ghost use Rattle.refusals.specs.First.{firstOf, numberOf};
-ghost use Rattle.payload.specs.Part.{viewTests, Viewed};
+ghost use Rattle.payload.specs.Part.{viewRefusal, Viewed};
 ghost use Rattle.payload.specs.View.{areaOf};
 use units::Bytes;
 use units::Marking;
@@ -9,7 +8,7 @@ use units::length_in_range;
 
 // The refusal number in one area, 0 if there is none.
 fn part_refusal(area: &[u8], length: Bytes, place: u32) -> u8
-    ensures { λ r. ⌜ r ≡ numberOf (firstOf (viewTests (now (area .entry)) (length .0) place)) ⌝ }
+    ensures { λ r. ⌜ r ≡ viewRefusal (now (area .entry)) (length .0) place ⌝ }
 {
     if !length_in_range(length) {
         return 1;
@@ -57,7 +56,7 @@ pub fn view_refusal<'a>(
     length: Bytes,
     place: u32,
 ) -> u8
-    ensures { λ r. ⌜ r ≡ numberOf (firstOf (viewTests (areaOf marking (now (unmarked .entry)) (now (marked .entry))) (length .0) place)) ⌝ }
+    ensures { λ r. ⌜ r ≡ viewRefusal (areaOf marking (now (unmarked .entry)) (now (marked .entry))) (length .0) place ⌝ }
 {
     match marking {
         Marking::Unmarked => part_refusal(unmarked, length, place),
