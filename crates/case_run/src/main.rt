@@ -7,7 +7,7 @@ const TEXT_MOST: usize = 170731;
 
 fn tell(image: &[u8]) {
     let mut answer = [0u8; TEXT_MOST];
-    let result = run::bilgethrum_run(image, &mut answer);
+    let result = run::whole_run(image, &mut answer);
     let n = io::count(result as isize, &answer);
     io::write_all(STDOUT_FILENO, &answer[..n]);
 }

@@ -1,4 +1,4 @@
-// The whole run on bytes, image in and text out: `bilgethrum_run` is a public call.
+// The whole run on bytes, image in and text out: `whole_run` is a public call.
 ghost use mathlib.Core.Path.{_≡_};
 ghost use Prim.Native.Nat.{_*_, _/_, _^_, _≤_, _<_};
 ghost use lib.IntN.{pos};
@@ -58,8 +58,7 @@ fn answer_refused(number: u8, block: u32, answer: &mut [u8]) -> i64
 
 // The whole run: the text of an image, at the start of the area. Returns the text's length, or -32 where the area is shorter than that;
 // then nothing is written.
-#[no_mangle]
-pub extern "C" fn bilgethrum_run(image: &[u8], answer: &mut [u8]) -> i64
+pub fn whole_run(image: &[u8], answer: &mut [u8]) -> i64
     ensures { λ r. ⌜ Answers (textOf (now (image .entry))) (now (answer .entry)) (now (answer .exit)) r ⌝ }
 {
     match judge_image(image) {

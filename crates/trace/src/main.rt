@@ -22,7 +22,7 @@ fn broke_off(got: usize) -> bool {
 // Writes the text of an image.
 fn tell(image: &[u8]) {
     let mut answer = [0u8; TEXT_MOST];
-    let result = run::bilgethrum_run(image, &mut answer);
+    let result = run::whole_run(image, &mut answer);
     if result < 0 {
         io::write_all(STDERR_FILENO, b"trace: the text does not fit its area\n");
         return;

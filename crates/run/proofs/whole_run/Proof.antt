@@ -1,10 +1,10 @@
--- `run::bilgethrum_run` meets its contract: the answer to the image as it is judged. Assumes nothing.
+-- `run::whole_run` meets its contract: the answer to the image as it is judged. Assumes nothing.
 use borrow.Author.Needs.{needs}
 use mir.Syntax.{w64}
 use mir.Facts.{toZ-ofZ}
 use Rattle.run.proofs.Answers.{answers-read, events-few}
-use Rattle.run.proofs.bilgethrum_run.Statement.{statement}
-use Rattle.run.proofs.bilgethrum_run.Tie as tie
+use Rattle.run.proofs.whole_run.Statement.{statement}
+use Rattle.run.proofs.whole_run.Tie as tie
 
 judge-image-requires : tie.Need-judge-image-requires
 judge-image-requires c κs = search needs
@@ -35,8 +35,8 @@ returns-2 : tie.Need-returns-2
 returns-2 c =
     answers-read _ _ _ (c .before .before .before .before .before .before .before .judge-image .ensures) (c .before .before .before .before .before .number .given .1) (toZ-ofZ {w = w64} (record { sfits = c .before .before .answer-refused .ok })) (c .before .before .answer-refused .ensures)
 
-pub bilgethrum-run-spec : {M : Type 1} → statement M
-bilgethrum-run-spec =
+pub whole-run-spec : {M : Type 1} → statement M
+whole-run-spec =
     tie.close
     (tie.spec
     judge-image-requires

@@ -1,0 +1,6 @@
+pub mod Kept
+pub mod Opens
+pub mod Arrives
+pub mod Advances
+pub mod Traces
+pub mod Unique
