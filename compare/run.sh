@@ -13,18 +13,20 @@ named=${1:-target/staticlib/librun.a}
 [ $# -eq 0 ] || shift
 mkdir -p target/compare
 find_archive "$named"
-second='peer/second.c peer/second_line.c peer/second_blocks.c'
+second='peer/second.c peer/second_line.c peer/second_blocks.c peer/second_columns.c'
+compare=
+for part in compare/*.c; do
+    [ "$part" = compare/all_numbers.c ] || compare="$compare $part"
+done
+# The stand-in's whole run is the baseline's, which is compared anyway.
+with_archive=
+[ "$named" = none ] || with_archive=-DWITH_ARCHIVE
 # The lists of files are lists of words.
 # shellcheck disable=SC2086
 {
     build tracetext tools/tracetext.c tools/trace_text.c peer/second_blocks.c
     build testbench bench/testbench.c "$archive"
-    if [ "$named" = none ]; then
-        build compare compare/*.c tools/trace_text.c $second peer/baseline.c
-    else
-        build compare -DWITH_ARCHIVE compare/*.c tools/trace_text.c $second peer/baseline.c \
-            "$archive"
-    fi
+    build compare $with_archive $compare tools/trace_text.c $second peer/baseline.c "$archive"
 }
 
 failed() {
