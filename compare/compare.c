@@ -80,7 +80,8 @@ static bool read_number(const char *word, uint64_t *number)
 static void hold_list(uint64_t index, uint64_t seed, bool aloud)
 {
     hold_lines(index, seed, aloud);
-    hold_columns(index, seed, aloud);
+    hold_reads(index, seed, aloud);
+    hold_writes(index, seed, aloud);
     hold_views(index, seed, aloud);
 }
 

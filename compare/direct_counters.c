@@ -33,6 +33,7 @@ static const char *const outcome_names[OUTCOMES] = {
     [READ_INTO_LONGER_COLUMNS] = "read into columns that are longer and unequal",
     [WRITTEN_IN_LONGER_IMAGE] = "written at the front of a longer image",
     [WRITTEN_64_BLOCKS] = "written as 64 blocks",
+    [WRITTEN_WITH_CHECK_ZERO] = "written with a check of 0000",
     [SEEN_IN_MARKED_AREA] = "payload in the marked area, not in the unmarked one",
     [SEEN_BEYOND_4_GIB] = "payload that ends beyond byte 2^32 of its area",
 };
