@@ -5,8 +5,13 @@
  * library, and has no heap and no variable of its own: all state is lent by the host.
  *
  * Every call takes every number.  It does its job or refuses with one of the numbers
- * below, and a refused call changes no byte of anything lent.  Numbers that an answer
- * has no use for are 0.
+ * below, and a refused call changes no byte of anything lent; only a refused opening
+ * still opens its line.  Numbers that an answer has no use for are 0: where a call is
+ * refused, all but the refusal, and the block where an image is.
+ *
+ * Structs.  They are laid out and handed over as the System V ABI for x86-64 says, with
+ * no packing pragma or option in force.  The bytes between their members mean nothing:
+ * no call heeds them, and a host compares members, not bytes.
  *
  * Memory.  Pointers are valid for the length said, aligned for their type, and never
  * NULL, even with length 0.  What one call may write overlaps nothing else that is
@@ -48,7 +53,7 @@ enum bilgethrum_refusal {
     BILGETHRUM_INSTANT = 2,          /* arrive, advance: instant above 10^15 */
     BILGETHRUM_BEFORE_CLOCK = 3,     /* arrive, advance: instant before that of the last accepted call */
     BILGETHRUM_TOO_LONG = 4,         /* arrive, marked: transmission time above alpha */
-    BILGETHRUM_OVERDUE = 5,          /* arrive: a decision is due before the instant: advance first */
+    BILGETHRUM_OVERDUE = 5,          /* arrive: a decision is due strictly before the instant: advance first */
     BILGETHRUM_ROOM_FULL = 6,        /* arrive: 64 packets of that marking wait */
     BILGETHRUM_NUMBERS_USED = 7,     /* arrive: 4,294,967,295 packets were admitted since opening */
     BILGETHRUM_ALPHA = 8,            /* open, write: alpha not 1 to 1,000,000 */
@@ -102,27 +107,28 @@ typedef struct bilgethrum_packet {
 uint32_t bilgethrum_open(bilgethrum_line *line, bilgethrum_settings settings);
 
 typedef struct bilgethrum_arrival {
-    uint32_t refusal; /* 1 to 7 */
+    uint32_t refusal; /* 0, or 1 to 7 */
     uint32_t number;  /* the packet's number, from 1; 0 where refused */
     uint64_t extra;   /* its extra delay now, in ticks; 0 for a marked packet */
 } bilgethrum_arrival;
 
 /* A packet arrives and waits, or is refused.  A host that is late with its advances
  * meets BILGETHRUM_OVERDUE: every decision that is due before the packet's arrival has
- * to be taken first. */
+ * to be taken first.  Then the packet may be handed over again. */
 bilgethrum_arrival bilgethrum_arrive(bilgethrum_line *line, bilgethrum_packet packet);
 
 typedef struct bilgethrum_decision {
-    uint32_t refusal; /* 2 or 3 */
+    uint32_t refusal; /* 0, or 2 or 3 */
     uint32_t number;  /* the packet that starts; 0 where nothing is due */
     uint64_t start;   /* the instant it starts: the due instant, which may lie before `at` */
     uint64_t extra;   /* its extra delay then, in ticks; 0 if it is marked */
     uint32_t dropped; /* how many packets are dropped: the numbers just below `number` */
-    bilgethrum_packet packet;
+    bilgethrum_packet packet; /* the one that starts, as it arrived; all 0 where none does */
 } bilgethrum_decision;
 
-/* The clock goes on to `at`, and one decision is taken if one is due by then.  Call it
- * again, with the same instant, until nothing is due. */
+/* The clock goes on to `at`, and one decision is taken if one is due by then.  Where
+ * nothing is due, every number of the answer is 0, the refusal too.  Call it again, with
+ * the same instant, until nothing is due. */
 bilgethrum_decision bilgethrum_advance(bilgethrum_line *line, uint64_t at);
 
 typedef struct bilgethrum_tallies {
@@ -150,13 +156,14 @@ enum bilgethrum_kind {
 };
 
 typedef struct bilgethrum_reading {
-    uint32_t refusal; /* 11 to 20 */
+    uint32_t refusal; /* 0, or 11 to 20 */
     uint32_t block;   /* the index of the refused block; 0 for 11 and 20 */
-    uint32_t events;
-    bilgethrum_settings settings;
+    uint32_t events;  /* how many were read; 0 where refused */
+    bilgethrum_settings settings; /* the image's; both 0 where refused */
 } bilgethrum_reading;
 
-/* Reads an image into four columns, entry i of each for event i.  Entries beyond the
+/* Reads an image into four columns, entry i of each for event i.  They may differ in
+ * length, and BILGETHRUM_MOST_EVENTS entries are always enough.  Entries beyond the
  * events stay as they were. */
 bilgethrum_reading bilgethrum_read(const uint8_t *image, size_t image_len,
                                    uint8_t *kinds, size_t kinds_len,
@@ -165,12 +172,12 @@ bilgethrum_reading bilgethrum_read(const uint8_t *image, size_t image_len,
                                    uint64_t *instants, size_t instants_len);
 
 typedef struct bilgethrum_writing {
-    uint32_t refusal; /* 8, 9, 21 to 24 */
-    uint32_t bytes;   /* how long the image is */
+    uint32_t refusal; /* 0, 8, 9, or 21 to 24 */
+    uint32_t bytes;   /* how long the image is; 0 where refused */
 } bilgethrum_writing;
 
-/* Writes the events of the columns as an image, at the front of the lent one.  Bytes
- * beyond it stay as they were. */
+/* Writes the events of the columns as an image, at the front of the lent one, for which
+ * BILGETHRUM_IMAGE_ENOUGH bytes are always enough.  Bytes beyond it stay as they were. */
 bilgethrum_writing bilgethrum_write(bilgethrum_settings settings,
                                     const uint8_t *kinds, size_t kinds_len,
                                     const uint32_t *lengths, size_t lengths_len,
