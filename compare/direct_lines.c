@@ -56,10 +56,10 @@ static void hold_words(const struct pair *pair, bool must_be_as_before)
 }
 
 static void open_pair(struct pair *pair, struct aim *aim, struct random *random,
-                      bilgethrum_settings settings)
+                      const struct step *step)
 {
-    int wanted = second_open(&pair->second, settings.alpha, settings.ticks_per_byte);
-    uint32_t given = bilgethrum_open(line_of(pair), settings);
+    int wanted = second_open(&pair->second, step->settings.alpha, step->settings.ticks_per_byte);
+    uint32_t given = bilgethrum_open(line_of(pair), step->settings);
     count_call(CALL_OPEN, given);
     if (given != (uint32_t)wanted) {
         printf("wanted: refusal %d\ngiven: refusal %" PRIu32 "\n", wanted, given);
@@ -170,14 +170,16 @@ static void copy_pair(const struct step *step)
     aims[step->line] = aims[step->from];
 }
 
-static void make(const struct step *step, struct random *random)
+static void make(const struct step *picked, struct random *random)
 {
+    struct step *step = &list[listed++];
+    *step = *picked;
+    fill_gaps(step);
     struct pair *pair = &pairs[step->line];
-    list[listed++] = *step;
     memcpy(&before, line_of(pair), sizeof before);
     switch (step->kind) {
     case STEP_OPEN:
-        open_pair(pair, &aims[step->line], random, step->settings);
+        open_pair(pair, &aims[step->line], random, step);
         break;
     case STEP_ARRIVE:
         arrive_at_pair(pair, step);

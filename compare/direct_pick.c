@@ -1,6 +1,8 @@
 /* Takes aimed events and makes some of their numbers wild; now and then opens or copies a line. */
 #include "direct_pick.h"
 
+#include <string.h>
+
 #define COUNT(array) (sizeof(array) / sizeof(array)[0])
 
 struct course pick_course(struct random *random)
@@ -128,4 +130,18 @@ struct event event_of(const struct step *step)
     return (struct event){ .kind = step->packet.marked != 0 ? MARKED : UNMARKED,
                            .length = step->packet.length, .place = step->packet.place,
                            .instant = step->packet.arrival };
+}
+
+void fill_gaps(struct step *step)
+{
+    bilgethrum_settings settings = step->settings;
+    bilgethrum_packet packet = step->packet;
+    memset(&step->settings, 0xa5, sizeof step->settings);
+    memset(&step->packet, 0xa5, sizeof step->packet);
+    step->settings.alpha = settings.alpha;
+    step->settings.ticks_per_byte = settings.ticks_per_byte;
+    step->packet.arrival = packet.arrival;
+    step->packet.length = packet.length;
+    step->packet.place = packet.place;
+    step->packet.marked = packet.marked;
 }

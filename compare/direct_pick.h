@@ -40,4 +40,8 @@ struct step pick_step(struct random *random, const struct course *course, struct
 struct step step_of(const struct event *event, unsigned line);
 struct event event_of(const struct step *step);
 
+/* Fills the bytes between the members of what is handed over: they mean nothing, so no
+ * call may heed them. */
+void fill_gaps(struct step *step);
+
 #endif
