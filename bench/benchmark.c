@@ -1,8 +1,9 @@
 /* Measures the archive against the baseline, by ratios from one run.
  *
- * Both are called by turns on the same image and area, which one untimed call has
- * warmed; a figure is the median of many such turns.  The image has at most 32,768
- * bytes and the area BILGETHRUM_ANSWER_ENOUGH. */
+ * Both are called by turns: the whole run on the same image and area, which one untimed
+ * call has warmed, the direct calls on a line each, which they have just filled.  A
+ * figure is the median of many such turns.  The image has at most 32,768 bytes and the
+ * area BILGETHRUM_ANSWER_ENOUGH. */
 #define _POSIX_C_SOURCE 200809L
 #include <inttypes.h>
 #include <stdio.h>
@@ -173,15 +174,95 @@ static void measure_advances(void)
     print_row("whole run, advances with nothing due", "ns/byte", measure(length), (double)length);
 }
 
+/* The direct calls of one side, and the line they are made on. */
+struct side {
+    uint32_t (*open)(bilgethrum_line *, bilgethrum_settings);
+    bilgethrum_arrival (*arrive)(bilgethrum_line *, bilgethrum_packet);
+    bilgethrum_decision (*advance)(bilgethrum_line *, uint64_t);
+    bilgethrum_line line;
+};
+
+static struct side archive_side = { bilgethrum_open, bilgethrum_arrive, bilgethrum_advance,
+                                    { { 0 } } };
+static struct side baseline_side = { baseline_call_open, baseline_call_arrive,
+                                     baseline_call_advance, { { 0 } } };
+
+enum { PAIRS = 900 };
+
+/* The packets that measure_waiting sends, too. */
+static bilgethrum_packet turned_packet(uint64_t i, uint64_t instant)
+{
+    uint32_t marked = i % 2 == 1;
+    return (bilgethrum_packet){ .arrival = instant, .length = marked ? 1 : 2048,
+                                .place = (uint32_t)i, .marked = marked };
+}
+
+static void fill_side(struct side *side, uint64_t waiting)
+{
+    bilgethrum_packet first = { .length = 2048, .marked = 1 };
+    side->open(&side->line, (bilgethrum_settings){ MOST_ALPHA, 64 });
+    side->arrive(&side->line, first);
+    side->advance(&side->line, 0);
+    for (uint64_t i = 0; i < waiting; i++)
+        side->arrive(&side->line, turned_packet(i, 0));
+}
+
+/* Lets one start and one arrive by turns, and gives a sum over the answers. */
+static uint64_t call_pairs(struct side *side)
+{
+    uint64_t sum = 0;
+    uint64_t due = 2048 * 64;
+    for (uint64_t i = 0; i < PAIRS; i++) {
+        bilgethrum_decision decision = side->advance(&side->line, due);
+        bilgethrum_arrival arrival = side->arrive(&side->line, turned_packet(i, due));
+        due = decision.start + (uint64_t)decision.packet.length * 64;
+        sum += decision.number + decision.extra + decision.packet.place + arrival.number
+               + arrival.extra + due;
+    }
+    return sum;
+}
+
+static double time_of_pairs(struct side *side, uint64_t waiting)
+{
+    fill_side(side, waiting);
+    double begin = nanoseconds();
+    call_pairs(side);
+    return (nanoseconds() - begin) / PAIRS;
+}
+
+static struct cost measure_pairs(uint64_t waiting)
+{
+    static double archive[TURNS], baseline[TURNS];
+    fill_side(&archive_side, waiting);
+    fill_side(&baseline_side, waiting);
+    if (call_pairs(&archive_side) != call_pairs(&baseline_side)) {
+        fprintf(stderr, "benchmark: archive and baseline give different answers\n");
+        exit(1);
+    }
+    for (int turn = 0; turn < TURNS; turn++) {
+        archive[turn] = time_of_pairs(&archive_side, waiting);
+        baseline[turn] = time_of_pairs(&baseline_side, waiting);
+    }
+    return (struct cost){ median(archive), median(baseline) };
+}
+
+static void measure_direct_calls(void)
+{
+    print_row("advance and arrive, 1 or 2 waiting", "ns/pair", measure_pairs(2), 1);
+    print_row("advance and arrive, 64 waiting", "ns/pair", measure_pairs(64), 1);
+    print_row("advance and arrive, 128 waiting", "ns/pair", measure_pairs(128), 1);
+}
+
 int main(void)
 {
     printf("image of at most %zu bytes, answer area of %zu, both warm; "
-           "medians of %d turns of %d calls\n",
-           sizeof image, sizeof answer, TURNS, CALLS_PER_TURN);
+           "medians of %d turns of %d calls (direct calls: of %d pairs)\n",
+           sizeof image, sizeof answer, TURNS, CALLS_PER_TURN, PAIRS);
     printf("%-44s %-9s %9s %9s %7s\n", "", "", "archive", "baseline", "ratio");
     measure_whole_run("whole run, three drops at each start", 60, 1);
     measure_whole_run("whole run, no drops", 10, 4);
     measure_per_event();
+    measure_direct_calls();
     measure_blocks("64 blocks of arrivals, refused in the last", UNMARKED, 0);
     measure_blocks("64 blocks of advances, refused in the last", ADVANCE, 0);
     measure_advances();

@@ -3,8 +3,10 @@
  *     testbench IMAGE...                  prints the text of each image
  *     testbench --expect TEXT IMAGE...    says where a text first differs from the file
  * Without an image it takes one from standard input.  Exit status 0: all well;
- * 1: some text differs; 2: a file could not be read or the run was misused. */
+ * 1: some text differs; 2: a file could not be read, the output could not be written or
+ * the run was misused. */
 #include <inttypes.h>
+#include <stdbool.h>
 #include <stdio.h>
 #include <string.h>
 
@@ -95,6 +97,13 @@ static int run_and_free(const char *name, struct bytes image, const struct bytes
     return status;
 }
 
+/* Output is buffered, so a full disk may show only here; an earlier failure is kept. */
+static bool all_is_written(void)
+{
+    bool failed = ferror(stdout) != 0;
+    return fclose(stdout) == 0 && !failed;
+}
+
 int main(int count, char **words)
 {
     struct bytes expected = { NULL, 0 };
@@ -119,5 +128,9 @@ int main(int count, char **words)
         worst = status > worst ? status : worst;
     }
     free(expected.at);
+    if (!all_is_written()) {
+        fprintf(stderr, "testbench: the output could not be written\n");
+        worst = TROUBLE;
+    }
     return worst;
 }

@@ -7,12 +7,12 @@
 #include <string.h>
 #include <sys/mman.h>
 
-/* A multiple of every usual page size. */
-enum { PAGES = 65536, GUARD = 96, ODD_OFFSET = GUARD + 3 };
+/* PAGES is a multiple of every usual page size, GUARD of twice every alignment. */
+enum { PAGES = 65536, GUARD = 96, MOST_ALIGNMENT = 8 };
 
 struct room room_of(size_t size)
 {
-    size_t inner = (size + 2 * ODD_OFFSET + PAGES - 1) / PAGES * PAGES;
+    size_t inner = (size + 2 * GUARD + MOST_ALIGNMENT + PAGES - 1) / PAGES * PAGES;
     uint8_t *outer = mmap(NULL, inner + 2 * PAGES, PROT_NONE, MAP_PRIVATE | MAP_ANONYMOUS, -1, 0);
     uint8_t *pattern = malloc(inner);
     if (outer == MAP_FAILED || pattern == NULL
@@ -37,9 +37,9 @@ static size_t guards_end(const struct area *area)
     return end < area->room->size ? end : area->room->size;
 }
 
-struct area lend(const struct room *room, size_t length, bool at_end)
+struct area lend(const struct room *room, size_t length, size_t alignment, bool at_end)
 {
-    struct area area = { room, at_end ? room->size - length : ODD_OFFSET, length };
+    struct area area = { room, at_end ? room->size - length : GUARD + alignment, length };
     size_t begin = guards_begin(&area);
     memcpy(room->bytes + begin, room->pattern + begin, guards_end(&area) - begin);
     return area;

@@ -23,8 +23,9 @@ struct area {
 struct room room_of(size_t size);
 
 /* Lends length bytes, filled with the pattern, as are the guard bytes around them.
- * at_end places them hard at the end of the room; else they begin some odd way in. */
-struct area lend(const struct room *room, size_t length, bool at_end);
+ * at_end places them hard at the end of the room; else they begin some way in, aligned
+ * as said (1, 2, 4 or 8) and no better.  length is a multiple of the alignment. */
+struct area lend(const struct room *room, size_t length, size_t alignment, bool at_end);
 
 uint8_t *area_bytes(const struct area *area);
 

@@ -6,6 +6,7 @@
 #include <string.h>
 
 #include "counters.h"
+#include "direct.h"
 #include "hold.h"
 #include "image.h"
 #include "round_trip.h"
@@ -23,6 +24,13 @@ static void hold_written(const char *name, size_t length, const char *text)
     memcpy(wanted.bytes, text, wanted.length);
     count_text(hold_image(name, image, length, &wanted));
     cases_held++;
+}
+
+/* The trace by its image and by direct calls. */
+static void hold_written_trace(const char *name, const char *text)
+{
+    hold_written(name, image_of(&trace, image), text);
+    hold_trace_by_calls(name, &trace);
 }
 
 static const struct {
@@ -83,9 +91,8 @@ static void hold_line_cases(void)
         struct trace_error error = trace_from_text(text, strlen(text), &trace);
         if (error.word != NULL)
             hold_failed(error.word);
-        size_t length = image_of(&trace, image);
-        hold_written(line_cases[i].name, length, line_cases[i].text);
-        round_trip(&trace, image, length);
+        hold_written_trace(line_cases[i].name, line_cases[i].text);
+        round_trip(&trace, image, image_of(&trace, image));
     }
 }
 
@@ -125,7 +132,7 @@ static void hold_room(const char *name, enum kind marking)
     append_event(marking, 1, 0);
     to += sprintf(to, "R 6\nS 1 0 0 0\n%sR 6\n", admitted(marking, WAITING_ROOM + 1));
     sprintf(to, marking == UNMARKED ? "T 65 0 1 0 0\n" : "T 0 65 0 1 0\n");
-    hold_written(name, image_of(&trace, image), text);
+    hold_written_trace(name, text);
 }
 
 /* 64 marked dropped by one start, after which the marked room is free again. */
@@ -146,7 +153,7 @@ static void hold_room_dropped(void)
     append_event(ADVANCE, 0, 100);
     append_event(MARKED, 1, 100);
     sprintf(to, "A 66 100\nR 6\nS 66 100 100 64\nM 67\nT 1 66 1 1 64\n");
-    hold_written("64 dropped at once", image_of(&trace, image), text);
+    hold_written_trace("64 dropped at once", text);
 }
 
 static void hold_longest_trace(void)
@@ -322,8 +329,8 @@ static void hold_image_cases(void)
         hold_written("image length", lengths[i], "X 11 0\n");
 }
 
-/* Refusals 1 and 2 never come in a text, as the reader gives 18 for such an event;
- * so the second program's line is asked for them itself. */
+/* Refusals 1 and 2 never come in a text, as the reader gives 18 for such an event, nor
+ * 8 and 9; so the second program's line is asked for them itself. */
 static void hold_calls(void)
 {
     static struct second_line line;
@@ -342,7 +349,18 @@ static void hold_calls(void)
         { { MARKED, 101, 0, MOST_INSTANT }, 4 },
         { { MARKED, 100, 0, MOST_INSTANT }, 0 },
     };
-    second_open(&line, 100, 1);
+    static const struct {
+        uint64_t alpha;
+        uint64_t ticks_per_byte;
+        int refusal;
+    } openings[] = {
+        { 0, 1, 8 }, { 1000001, 1, 8 }, { 0, 0, 8 }, { UINT64_MAX, 65, 8 },
+        { 1, 0, 9 }, { 1000000, 65, 9 }, { 1, 1, 0 }, { 1000000, 64, 0 }, { 100, 1, 0 },
+    };
+    for (size_t i = 0; i < sizeof openings / sizeof openings[0]; i++, cases_held++)
+        if (second_open(&line, openings[i].alpha, openings[i].ticks_per_byte)
+            != openings[i].refusal)
+            hold_failed("refusals 8 and 9 of the second program's line");
     for (size_t i = 0; i < sizeof calls / sizeof calls[0]; i++, cases_held++)
         if (second_take(&line, &calls[i].event).refusal != calls[i].refusal)
             hold_failed("refusals 1 to 4 of the second program's line");

@@ -1,14 +1,19 @@
-/* Compares the second program, the baseline and the proved archive on fixed and random images.
+/* Compares the second program, the baseline and the proved archive on fixed and random images
+ * and by direct calls.
  *
  *     compare [IMAGES [SEED]]
+ *     compare list INDEX SEED     makes one list of direct calls again, and tells each
  * Exit status 0: no difference, and everything that should be reached was. */
 #include <inttypes.h>
 #include <stdio.h>
 #include <stdlib.h>
+#include <string.h>
 
 #include "cases.h"
 #include "counters.h"
 #include "damage.h"
+#include "direct.h"
+#include "direct_counters.h"
 #include "generate.h"
 #include "hold.h"
 #include "image.h"
@@ -16,6 +21,9 @@
 
 /* Fewer images need not reach everything. */
 enum { USUAL_IMAGES = 20000, ENOUGH_TO_JUDGE = 10000, VALID_PERCENT = 55 };
+
+/* A list of direct calls comes for every so many images. */
+enum { IMAGES_PER_LIST = 8 };
 
 static unsigned long long valid_images;
 static unsigned long long damaged[DAMAGES];
@@ -69,27 +77,52 @@ static bool read_number(const char *word, uint64_t *number)
     return word[0] >= '0' && word[0] <= '9' && *end == 0;
 }
 
-int main(int count, char **words)
+static void hold_list(uint64_t index, uint64_t seed, bool aloud)
 {
-    uint64_t images = USUAL_IMAGES;
-    uint64_t seed = 1;
-    if (count > 3 || (count > 1 && !read_number(words[1], &images))
-        || (count > 2 && !read_number(words[2], &seed))) {
-        fprintf(stderr, "use: compare [IMAGES [SEED]]\n");
-        return 2;
-    }
-    hold_begin();
+    hold_lines(index, seed, aloud);
+    hold_reads(index, seed, aloud);
+    hold_writes(index, seed, aloud);
+    hold_views(index, seed, aloud);
+}
+
+static int compare_all(uint64_t images, uint64_t seed)
+{
     hold_trace_texts();
     hold_cases();
     for (uint64_t index = 0; index < images; index++)
         compare_one(index, seed);
+    for (uint64_t index = 0; index < images / IMAGES_PER_LIST; index++)
+        hold_list(index, seed, false);
     bool all = print_kinds();
     all &= print_counters();
+    all &= print_direct_counters();
     hold_print_calls();
     if (!all && images >= ENOUGH_TO_JUDGE) {
-        printf("FAILED: something that the images must reach was never reached\n");
+        printf("FAILED: something that must be reached was never reached\n");
         return 1;
     }
-    printf("compare: %" PRIu64 " images from seed %" PRIu64 ", 0 differences\n", images, seed);
+    printf("compare: %" PRIu64 " images from seed %" PRIu64 ", %" PRIu64
+           " direct calls, 0 differences\n", images, seed, direct_calls_made());
+    return 0;
+}
+
+int main(int count, char **words)
+{
+    uint64_t number = USUAL_IMAGES;
+    uint64_t seed = 1;
+    bool one_list = count == 4 && strcmp(words[1], "list") == 0;
+    int next = one_list ? 2 : 1;
+    if (count > next + 2 || (count > next && !read_number(words[next], &number))
+        || (count > next + 1 && !read_number(words[next + 1], &seed))) {
+        fprintf(stderr, "use: compare [IMAGES [SEED]], or compare list INDEX SEED\n");
+        return 2;
+    }
+    hold_begin();
+    direct_begin();
+    if (!one_list)
+        return compare_all(number, seed);
+    hold_list(number, seed, true);
+    printf("compare: list %" PRIu64 " of seed %" PRIu64 ", %" PRIu64
+           " direct calls, 0 differences\n", number, seed, direct_calls_made());
     return 0;
 }

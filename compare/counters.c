@@ -154,7 +154,7 @@ static void replay_marked(struct replay *replay, const struct event *event)
 static void count_nearness(const struct baseline_line *before, const struct baseline_start *start)
 {
     if (baseline_ring_count(&before->unmarked) == 0
-        || before->unmarked.number[before->unmarked.first % BASELINE_ROOM] == before->head)
+        || baseline_first_unmarked(before) == before->gone + 1)
         return;
     uint32_t reached = before->first_extra
                        + before->marked.time[before->marked.first % BASELINE_ROOM];

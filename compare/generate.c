@@ -2,8 +2,6 @@
  * instants and full rooms.  A baseline that erred would aim badly, not judge badly. */
 #include "generate.h"
 
-#include "baseline_line.h"
-
 /* How often each kind of event comes, and how often an instant is just the clock. */
 struct mood {
     unsigned unmarked;
@@ -39,7 +37,7 @@ static uint64_t less(uint64_t from, uint64_t amount)
     return from < amount ? 0 : from - amount;
 }
 
-static uint64_t pick_alpha(struct random *random)
+uint64_t generate_alpha(struct random *random)
 {
     static const uint64_t some[] = { 1, 2, 63, 64, 65, 131072, 999999, MOST_ALPHA };
     switch (random_below(random, 8)) {
@@ -56,7 +54,7 @@ static uint64_t pick_alpha(struct random *random)
     }
 }
 
-static uint64_t pick_ticks(struct random *random)
+uint64_t generate_ticks(struct random *random)
 {
     static const uint64_t some[] = { 1, 1, 1, 1, 2, 3, MOST_TICKS_PER_BYTE };
     if (random_percent(random, 20))
@@ -219,37 +217,56 @@ static struct event pick_event(struct random *random, const struct mood *mood,
     return event;
 }
 
-static void follow(struct baseline_line *line, const struct event *event)
+void aim_open(struct aim *aim, struct random *random, uint64_t alpha, uint64_t ticks_per_byte)
+{
+    aim->mood = &moods[random_below(random, MOODS)];
+    baseline_open(&aim->line, (uint32_t)alpha, (uint32_t)ticks_per_byte);
+}
+
+struct event aim_event(struct aim *aim, struct random *random)
+{
+    if (random_percent(random, 2))
+        aim->mood = &moods[random_below(random, MOODS)];
+    return pick_event(random, aim->mood, &aim->line);
+}
+
+/* Out of these ranges an event is refused with 1 or 2 and changes nothing. */
+static bool in_range(const struct event *event)
+{
+    return event->instant <= MOST_INSTANT
+           && (event->kind == ADVANCE || in_length_range(event->length) == event->length);
+}
+
+void aim_follow(struct aim *aim, const struct event *event)
 {
     uint32_t extra_delay;
     bool decided;
     struct baseline_start start;
+    if (!in_range(event))
+        return;
     if (event->kind == UNMARKED)
-        baseline_unmarked(line, (uint32_t)event->length, event->instant, &extra_delay);
+        baseline_unmarked(&aim->line, (uint32_t)event->length, event->instant, &extra_delay);
     else if (event->kind == MARKED)
-        baseline_marked(line, (uint32_t)event->length, event->instant);
+        baseline_marked(&aim->line, (uint32_t)event->length, event->instant);
     else
-        baseline_advance(line, event->instant, &decided, &start);
+        baseline_advance(&aim->line, event->instant, &decided, &start);
 }
 
 void generate_trace(struct random *random, struct trace *trace)
 {
-    struct baseline_line line;
-    const struct mood *mood = &moods[random_below(random, MOODS)];
-    trace->alpha = pick_alpha(random);
-    trace->ticks_per_byte = pick_ticks(random);
+    struct aim aim;
+    trace->alpha = generate_alpha(random);
+    trace->ticks_per_byte = generate_ticks(random);
     trace->count = pick_count(random);
-    baseline_open(&line, (uint32_t)trace->alpha, (uint32_t)trace->ticks_per_byte);
+    aim_open(&aim, random, trace->alpha, trace->ticks_per_byte);
     size_t i = 0;
     if (random_percent(random, 8)) {        /* a run that ends near the last instant */
         trace->events[0] = (struct event){
             .kind = ADVANCE, .instant = MOST_INSTANT - random_below(random, 20000) };
-        follow(&line, &trace->events[i++]);
+        aim_follow(&aim, &trace->events[i++]);
     }
     for (; i < trace->count; i++) {
-        if (random_percent(random, 2))
-            mood = &moods[random_below(random, MOODS)];
-        trace->events[i] = pick_event(random, mood, &line);
-        follow(&line, &trace->events[i]);
+        trace->events[i] = aim_event(&aim, random);
+        aim_follow(&aim, &trace->events[i]);
     }
 }

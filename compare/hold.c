@@ -59,19 +59,26 @@ static bool save(const char *name, const uint8_t *bytes, size_t length)
 
 _Noreturn void hold_failed(const char *why)
 {
-    printf("DIFFERENCE: %s\nlast image: %s\n", why, now_what);
+    printf("DIFFERENCE: %s\nat: %s\n", why, now_what);
     if (now_image != NULL && save(IMAGE_FILE, now_image, now_length))
         printf("image of %zu bytes saved to %s\n", now_length, IMAGE_FILE);
     exit(1);
 }
 
+/* From a signal handler stdio may not be used. */
+static bool say(const char *words)
+{
+    size_t length = strlen(words);
+    return write(STDOUT_FILENO, words, length) == (ssize_t)length;
+}
+
 /* A program that touches memory it was not lent ends here. */
 static void on_fault(int signal)
 {
-    static const char message[] = "DIFFERENCE: a program touched memory it was not lent; "
-                                  "image saved to " IMAGE_FILE "\n";
-    bool done = save(IMAGE_FILE, now_image, now_length)
-                && write(STDOUT_FILENO, message, sizeof message - 1) > 0;
+    bool done = say("DIFFERENCE: a program touched memory it was not lent\nat: ")
+                && say(now_what) && say("\n");
+    if (now_image != NULL && save(IMAGE_FILE, now_image, now_length))
+        done &= say("image saved to " IMAGE_FILE "\n");
     _exit(done ? 1 : 128 + signal);
 }
 
@@ -81,6 +88,12 @@ void hold_begin(void)
     answer_room = room_of(HUGE_AREA);
     signal(SIGSEGV, on_fault);
     signal(SIGBUS, on_fault);
+}
+
+void hold_now(const char *what)
+{
+    now_what = what;
+    now_image = NULL;
 }
 
 void hold_print_calls(void)
@@ -142,7 +155,7 @@ static _Noreturn void broke_rule(const struct program *program, size_t area, int
 /* Odd and even calls are lent areas at the two ends of their rooms. */
 static struct area lend_image(bool at_end)
 {
-    struct area area = lend(&image_room, now_length, at_end);
+    struct area area = lend(&image_room, now_length, 1, at_end);
     memcpy(area_bytes(&area), now_image, now_length);
     return area;
 }
@@ -159,7 +172,7 @@ static void call(int index, size_t area_length, const struct text *wanted)
     const struct program *program = &programs[index];
     bool at_end = calls[index]++ % 2 == 0;
     struct area image = lend_image(at_end);
-    struct area answer = lend(&answer_room, area_length, at_end);
+    struct area answer = lend(&answer_room, area_length, 1, at_end);
     int64_t result = program->run(area_bytes(&image), now_length, area_bytes(&answer), area_length);
     bool fits = area_length >= wanted->length;
     if (!image_is_unchanged(&image))

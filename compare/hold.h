@@ -20,6 +20,9 @@ void hold_begin(void);
 const struct text *hold_image(const char *what, const uint8_t *image, size_t length,
                               const struct text *written);
 
+/* Says what is tried now, where it is no image; what stays valid until the next. */
+void hold_now(const char *what);
+
 /* Ends the process in the same way for a difference found elsewhere. */
 _Noreturn void hold_failed(const char *why);
 

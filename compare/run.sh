@@ -2,29 +2,33 @@
 # Builds the comparison, tries the tools on the bundled traces, and compares.
 #
 #     compare/run.sh [ARCHIVE|none [IMAGES [SEED]]]
-# ARCHIVE is the proved archive (default target/staticlib/librun.a); with 'none' the
+# ARCHIVE is the proved archive (default target/staticlib/libbilgethrum.a); with 'none' the
 # second program and the baseline are compared alone.  See compare/toolchain.sh for
 # the variables it heeds.
 set -eu
 cd "$(dirname "$0")/.."
 . compare/toolchain.sh
 
-named=${1:-target/staticlib/librun.a}
+named=${1:-target/staticlib/libbilgethrum.a}
 [ $# -eq 0 ] || shift
 mkdir -p target/compare
 find_archive "$named"
-second='peer/second.c peer/second_line.c peer/second_blocks.c'
+second='peer/second.c peer/second_line.c peer/second_blocks.c peer/second_columns.c'
+compare=
+for part in compare/*.c; do
+    [ "$part" = compare/all_numbers.c ] || compare="$compare $part"
+done
+# The stand-in's whole run is the baseline's, which is compared anyway.
+with_archive=
+[ "$named" = none ] || with_archive=-DWITH_ARCHIVE
 # The lists of files are lists of words.
 # shellcheck disable=SC2086
 {
     build tracetext tools/tracetext.c tools/trace_text.c peer/second_blocks.c
     build testbench bench/testbench.c "$archive"
-    if [ "$named" = none ]; then
-        build compare compare/*.c tools/trace_text.c $second peer/baseline.c
-    else
-        build compare -DWITH_ARCHIVE compare/*.c tools/trace_text.c $second peer/baseline.c \
-            "$archive"
-    fi
+    build host bench/host.c "$archive"
+    build all_numbers compare/all_numbers.c "$archive"
+    build compare $with_archive $compare tools/trace_text.c $second peer/baseline.c "$archive"
 }
 
 failed() {
@@ -69,6 +73,39 @@ status=0
 head -c 511 target/compare/printed.image | tool unpack 2>"$said" || status=$?
 refuses 'refused with 11 in block 0' 'a cut image' $status
 printf '%s bundled traces packed, unpacked and judged\n' "$traces"
+
+# The example host prints the printed case, and shows refusal 5 where its duty is not done.
+host() {
+    emulated target/compare/host "$@"
+}
+host | cmp -s - traces/printed.text || failed 'the host prints another text'
+host duty >"$said"
+sed '/^too late:$/,$d' "$said" | grep -q '^R' && failed 'a host in time meets a refusal'
+sed '1,/^too late:$/d' "$said" | grep -qx 'R 5' || failed 'a late host does not meet refusal 5'
+
+# What cannot be written must be told, with a status other than 0: unwritten STATUS WHAT.
+unwritten() {
+    [ "$1" -ne 0 ] || failed "$2 ends well though its output is lost"
+    grep -q 'could not be written' "$said" || failed "$2 loses its output without a word"
+}
+if [ -w /dev/full ]; then
+    status=0
+    host >/dev/full 2>"$said" || status=$?
+    unwritten $status 'the host with a full disk'
+    status=0
+    bench target/compare/printed.image >/dev/full 2>"$said" || status=$?
+    unwritten $status 'the test bench with a full disk'
+fi
+status=0
+host >&- 2>"$said" || status=$?
+unwritten $status 'the host with its output closed'
+status=0
+bench target/compare/printed.image >&- 2>"$said" || status=$?
+unwritten $status 'the test bench with its output closed'
+status=0
+bench --expect traces/printed.text target/compare/printed.image >&- 2>"$said" || status=$?
+unwritten $status 'the judging test bench with its output closed'
+printf 'the host and the test bench tell what they cannot write\n'
 
 # A difference is saved beside the programs.
 cd target/compare

@@ -46,7 +46,7 @@ emulated() {
     $EMULATE "$@"
 }
 
-# Sets archive to the file that has bilgethrum_run: the one named, or the stand-in for 'none'.
+# Sets archive to the file that has the header's calls: the one named, or the stand-in for 'none'.
 find_archive() {
     archive=$1
     if [ "$archive" = none ]; then
@@ -58,5 +58,5 @@ find_archive() {
             "$("$CC" -print-prog-name=ar)" rc "$archive" "target/compare/$part.o"
         done
     fi
-    [ -f "$archive" ] || missing "the archive $archive (rt staticlib run), or say 'none'"
+    [ -f "$archive" ] || missing "the archive $archive (rt staticlib bilgethrum), or say 'none'"
 }

@@ -1,4 +1,25 @@
-/* Declares the whole run that the proved archive offers to C: trace image in, text out. */
+/* Declares every call that the proved archive offers to C hosts.
+ *
+ * Link libbilgethrum.a, which `rt staticlib bilgethrum` writes.  The archive holds
+ * x86-64 code for Linux's calling convention; it calls nothing, not even the C
+ * library, and has no heap and no variable of its own: all state is lent by the host.
+ *
+ * Every call takes every number.  It does its job or refuses with one of the numbers
+ * below, and a refused call changes no byte of anything lent; only a refused opening
+ * still opens its line.  Numbers that an answer has no use for are 0: where a call is
+ * refused, all but the refusal, and the block where an image is.
+ *
+ * Structs.  They are laid out and handed over as the System V ABI for x86-64 says, with
+ * no packing pragma or option in force.  The bytes between their members mean nothing:
+ * no call heeds them, and a host compares members, not bytes.
+ *
+ * Memory.  Pointers are valid for the length said, aligned for their type, and never
+ * NULL, even with length 0.  What one call may write overlaps nothing else that is
+ * lent to the same call.  Nothing is kept between calls but what stands in the line's
+ * words.  Calls that share no writable memory may run on different threads; two calls
+ * on one line may not run at the same time.
+ *
+ * Stack.  No call needs more than BILGETHRUM_STACK_BYTES below its caller. */
 #ifndef BILGETHRUM_H
 #define BILGETHRUM_H
 
@@ -9,11 +30,171 @@
 extern "C" {
 #endif
 
-/* An image is read as blocks of this many bytes, at most 64 of them.  Any other
- * length may be lent as well: its text is then the line "X 11 0". */
+/* The version of these declarations: the first number grows where a host has to be
+ * changed or compiled anew, the second where something is added. */
+#define BILGETHRUM_VERSION_MAJOR 1
+#define BILGETHRUM_VERSION_MINOR 0
+
+#define BILGETHRUM_STACK_BYTES 8192
+
+/* ---- Limits ---- */
+
+#define BILGETHRUM_MOST_ALPHA UINT64_C(1000000)
+#define BILGETHRUM_MOST_TICKS_PER_BYTE 64
+#define BILGETHRUM_MOST_LENGTH 2048
+#define BILGETHRUM_MOST_INSTANT UINT64_C(1000000000000000)
+#define BILGETHRUM_MOST_WAITING 64 /* of each marking */
+
+/* ---- Refusals, each by its number; 0 is none ---- */
+
+enum bilgethrum_refusal {
+    BILGETHRUM_NOT_REFUSED = 0,
+    BILGETHRUM_LENGTH = 1,           /* arrive, view: length not 1 to 2,048 */
+    BILGETHRUM_INSTANT = 2,          /* arrive, advance: instant above 10^15 */
+    BILGETHRUM_BEFORE_CLOCK = 3,     /* arrive, advance: instant before that of the last accepted call */
+    BILGETHRUM_TOO_LONG = 4,         /* arrive, marked: transmission time above alpha */
+    BILGETHRUM_OVERDUE = 5,          /* arrive: a decision is due strictly before the instant: advance first */
+    BILGETHRUM_ROOM_FULL = 6,        /* arrive: 64 packets of that marking wait */
+    BILGETHRUM_NUMBERS_USED = 7,     /* arrive: 4,294,967,295 packets were admitted since opening */
+    BILGETHRUM_ALPHA = 8,            /* open, write: alpha not 1 to 1,000,000 */
+    BILGETHRUM_TICKS_PER_BYTE = 9,   /* open, write: ticks per byte not 1 to 64 */
+    BILGETHRUM_IMAGE_LENGTH = 11,    /* read: not a positive multiple of 512, or above 64 blocks */
+    BILGETHRUM_CHECK = 12,           /* read, in the block whose index is given: the check is another */
+    BILGETHRUM_EDITION = 13,         /* its edition is not 1 */
+    BILGETHRUM_COUNT = 14,           /* its record count is not 31, or in the last block not 1 to 31 */
+    BILGETHRUM_BLOCK_NUMBER = 15,    /* its block number is not its place in the image */
+    BILGETHRUM_SETTINGS = 16,        /* its settings are out of range or unlike block 0's, or bytes 14-15 not 0 */
+    BILGETHRUM_KIND = 17,            /* a record's kind is not 1, 2 or 3 */
+    BILGETHRUM_FIELD = 18,           /* another field of a record is out of range */
+    BILGETHRUM_UNUSED_BYTES = 19,    /* its unused bytes are not zero */
+    BILGETHRUM_COLUMN_SHORT = 20,    /* read: a lent column is shorter than the number of events */
+    BILGETHRUM_COLUMNS_UNEQUAL = 21, /* write: the columns differ in length */
+    BILGETHRUM_EVENT_COUNT = 22,     /* write: no event, or more than 1,984 */
+    BILGETHRUM_EVENT = 23,           /* write: an event that the reader would refuse with 17 or 18 */
+    BILGETHRUM_IMAGE_SHORT = 24,     /* write: the lent image is too short */
+    BILGETHRUM_OUTSIDE = 31,         /* view: the payload reaches beyond its area */
+    BILGETHRUM_ANSWER_SHORT = 32     /* run: the answer area is shorter than the text; run gives -32 */
+};
+
+/* ---- The line: scheduler and waiting room ---- */
+
+/* What a host holds for each line, wherever it likes, on the stack or static.  The
+ * words are the calls' own business, with one PREMISE: a line that is handed to
+ * bilgethrum_arrive, bilgethrum_advance or bilgethrum_tally comes from bilgethrum_open
+ * and from calls on it, copied or moved as a whole at most.  Nothing is promised of
+ * any other words. */
+#define BILGETHRUM_LINE_WORDS 851
+
+typedef struct bilgethrum_line {
+    uint32_t words[BILGETHRUM_LINE_WORDS];
+} bilgethrum_line;
+
+typedef struct bilgethrum_settings {
+    uint64_t alpha;          /* ticks: how much later an unmarked packet may start */
+    uint32_t ticks_per_byte; /* transmission time is length times this */
+} bilgethrum_settings;
+
+typedef struct bilgethrum_packet {
+    uint64_t arrival; /* instant, in ticks since the opening */
+    uint32_t length;  /* bytes */
+    uint32_t place;   /* where the payload lies in its area; handed back as it came */
+    uint32_t marked;  /* 0 unmarked; any other number marked, handed back as 1 */
+} bilgethrum_packet;
+
+/* Opens a line, whatever stood in its words; the clock starts at 0.  Gives the refusal
+ * number (8, 9).  A refused opening opens the line all the same, with alpha 1 and 1
+ * tick per byte. */
+uint32_t bilgethrum_open(bilgethrum_line *line, bilgethrum_settings settings);
+
+typedef struct bilgethrum_arrival {
+    uint32_t refusal; /* 0, or 1 to 7 */
+    uint32_t number;  /* the packet's number, from 1; 0 where refused */
+    uint64_t extra;   /* its extra delay now, in ticks; 0 for a marked packet */
+} bilgethrum_arrival;
+
+/* A packet arrives and waits, or is refused.  A host that is late with its advances
+ * meets BILGETHRUM_OVERDUE: every decision that is due before the packet's arrival has
+ * to be taken first.  Then the packet may be handed over again. */
+bilgethrum_arrival bilgethrum_arrive(bilgethrum_line *line, bilgethrum_packet packet);
+
+typedef struct bilgethrum_decision {
+    uint32_t refusal; /* 0, or 2 or 3 */
+    uint32_t number;  /* the packet that starts; 0 where nothing is due */
+    uint64_t start;   /* the instant it starts: the due instant, which may lie before `at` */
+    uint64_t extra;   /* its extra delay then, in ticks; 0 if it is marked */
+    uint32_t dropped; /* how many packets are dropped: the numbers just below `number` */
+    bilgethrum_packet packet; /* the one that starts, as it arrived; all 0 where none does */
+} bilgethrum_decision;
+
+/* The clock goes on to `at`, and one decision is taken if one is due by then.  Where
+ * nothing is due, every number of the answer is 0, the refusal too.  Call it again, with
+ * the same instant, until nothing is due. */
+bilgethrum_decision bilgethrum_advance(bilgethrum_line *line, uint64_t at);
+
+typedef struct bilgethrum_tallies {
+    uint32_t unmarked_admitted;
+    uint32_t marked_admitted;
+    uint32_t unmarked_started;
+    uint32_t marked_started;
+    uint32_t marked_dropped;
+} bilgethrum_tallies;
+
+/* The five tallies since the opening. */
+bilgethrum_tallies bilgethrum_tally(const bilgethrum_line *line);
+
+/* ---- Traces: events in columns, images of 512-byte blocks ---- */
+
 #define BILGETHRUM_BLOCK_BYTES 512
 #define BILGETHRUM_MOST_BLOCKS 64
 #define BILGETHRUM_MOST_EVENTS 1984
+#define BILGETHRUM_IMAGE_ENOUGH (BILGETHRUM_MOST_BLOCKS * BILGETHRUM_BLOCK_BYTES)
+
+enum bilgethrum_kind {
+    BILGETHRUM_UNMARKED_ARRIVAL = 1,
+    BILGETHRUM_MARKED_ARRIVAL = 2,
+    BILGETHRUM_ADVANCE = 3 /* its length and place are 0 */
+};
+
+typedef struct bilgethrum_reading {
+    uint32_t refusal; /* 0, or 11 to 20 */
+    uint32_t block;   /* the index of the refused block; 0 for 11 and 20 */
+    uint32_t events;  /* how many were read; 0 where refused */
+    bilgethrum_settings settings; /* the image's; both 0 where refused */
+} bilgethrum_reading;
+
+/* Reads an image into four columns, entry i of each for event i.  They may differ in
+ * length, and BILGETHRUM_MOST_EVENTS entries are always enough.  Entries beyond the
+ * events stay as they were. */
+bilgethrum_reading bilgethrum_read(const uint8_t *image, size_t image_len,
+                                   uint8_t *kinds, size_t kinds_len,
+                                   uint32_t *lengths, size_t lengths_len,
+                                   uint32_t *places, size_t places_len,
+                                   uint64_t *instants, size_t instants_len);
+
+typedef struct bilgethrum_writing {
+    uint32_t refusal; /* 0, 8, 9, or 21 to 24 */
+    uint32_t bytes;   /* how long the image is; 0 where refused */
+} bilgethrum_writing;
+
+/* Writes the events of the columns as an image, at the front of the lent one, for which
+ * BILGETHRUM_IMAGE_ENOUGH bytes are always enough.  Bytes beyond it stay as they were. */
+bilgethrum_writing bilgethrum_write(bilgethrum_settings settings,
+                                    const uint8_t *kinds, size_t kinds_len,
+                                    const uint32_t *lengths, size_t lengths_len,
+                                    const uint32_t *places, size_t places_len,
+                                    const uint64_t *instants, size_t instants_len,
+                                    uint8_t *image, size_t image_len);
+
+/* ---- Payloads ---- */
+
+/* Whether the payload of a packet lies within its area, unmarked or marked: gives 0
+ * where it is area[place .. place + length), else the refusal number (1, 31).  No byte
+ * of either area is read. */
+uint32_t bilgethrum_view_refusal(const uint8_t *unmarked, size_t unmarked_len,
+                                 const uint8_t *marked, size_t marked_len,
+                                 bilgethrum_packet packet);
+
+/* ---- The whole run: trace image in, text out ---- */
 
 /* An answer area of this many bytes is enough for every image, and lets the run play
  * each event once; with a smaller area it first measures the text.
@@ -27,7 +208,7 @@ extern "C" {
     (BILGETHRUM_MOST_EVENTS * BILGETHRUM_LONGEST_LINE + BILGETHRUM_TALLY_LINE)
 
 /* What comes back where the answer area is shorter than the text. */
-#define BILGETHRUM_AREA_TOO_SHORT (-32)
+#define BILGETHRUM_AREA_TOO_SHORT (-BILGETHRUM_ANSWER_SHORT)
 
 /* Runs the trace in image[0 .. image_len) on a fresh scheduler and writes its text
  * at the start of answer[0 .. answer_len).
@@ -35,11 +216,7 @@ extern "C" {
  * Gives the text's length in bytes; there is no closing zero byte.  Bytes of the
  * area beyond the text stay as they were.  Where the area is shorter than the text
  * it gives BILGETHRUM_AREA_TOO_SHORT and the whole area stays as it was.  A refused
- * image is an ordinary outcome: its text is the one line "X c b".
- *
- * Both areas are lent for the call only, and nothing is kept between calls.  The
- * image is not changed.  Neither area needs any alignment.  They must not overlap,
- * each must be as long as said, and neither pointer may be NULL, even with length 0. */
+ * image is an ordinary outcome: its text is the one line "X c b". */
 int64_t bilgethrum_run(const uint8_t *image, size_t image_len,
                        uint8_t *answer, size_t answer_len);
 

@@ -1,10 +1,13 @@
-/* The baseline: the same whole run as a C programmer would ship it, for speed. */
+/* The baseline: the same calls as a C programmer would ship them, for speed. */
 #ifndef BASELINE_H
 #define BASELINE_H
 
-#include <stddef.h>
-#include <stdint.h>
+#include "bilgethrum.h"
 
 int64_t baseline_run(const uint8_t *image, size_t image_len, uint8_t *answer, size_t answer_len);
+
+uint32_t baseline_call_open(bilgethrum_line *line, bilgethrum_settings settings);
+bilgethrum_arrival baseline_call_arrive(bilgethrum_line *line, bilgethrum_packet packet);
+bilgethrum_decision baseline_call_advance(bilgethrum_line *line, uint64_t at);
 
 #endif

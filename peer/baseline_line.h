@@ -9,30 +9,33 @@ enum { BASELINE_ROOM = 64 };
 
 #define BASELINE_MOST_INSTANT UINT64_C(1000000000000000)
 
+/* Aligned as a word of 32 bits, so that a line may lie in a host's array of those. */
+typedef uint64_t baseline_ticks __attribute__((aligned(4)));
+
 /* Positions count up for ever and are cut to the ring's size where it is indexed. */
 struct baseline_ring {
     uint32_t first;
     uint32_t end;
-    uint32_t number[BASELINE_ROOM];
     uint32_t time[BASELINE_ROOM];
 };
 
 /* Admitted packets are numbered without gaps, so the head of the queue is number
- * head, and the marked packets ahead of an unmarked one are counted by subtraction. */
+ * gone + 1, and the marked packets ahead of an unmarked one are counted by subtraction. */
 struct baseline_line {
-    uint64_t clock;
-    uint64_t free;              /* while packets wait: the due instant */
-    uint64_t unmarked_work;     /* transmission times of all waiting unmarked packets */
+    baseline_ticks clock;
+    baseline_ticks free;            /* while packets wait: the due instant */
+    baseline_ticks unmarked_work;   /* transmission times of all waiting unmarked packets */
     uint32_t alpha;
     uint32_t ticks_per_byte;
-    uint32_t head;
+    uint32_t gone;                  /* the last number that started or was dropped */
     uint32_t admitted;
-    uint32_t first_extra;       /* of the first waiting unmarked packet */
-    uint32_t last_extra;        /* of the last one, or of the one on the line */
+    uint32_t first_extra;           /* of the first waiting unmarked packet */
+    uint32_t last_extra;            /* of the last one, or of the one on the line */
     bool unmarked_on_line;
     struct baseline_ring unmarked;
     struct baseline_ring marked;
-    uint32_t difference[BASELINE_ROOM];     /* predecessor's extra delay less its own */
+    uint32_t number[BASELINE_ROOM];         /* of each waiting unmarked packet */
+    uint32_t difference[BASELINE_ROOM];     /* its predecessor's extra delay less its own */
     uint32_t unmarked_admitted;
     uint32_t marked_admitted;
     uint32_t unmarked_started;
@@ -50,7 +53,7 @@ struct baseline_start {
 static inline void baseline_open(struct baseline_line *line, uint32_t alpha,
                                  uint32_t ticks_per_byte)
 {
-    *line = (struct baseline_line){ .alpha = alpha, .ticks_per_byte = ticks_per_byte, .head = 1 };
+    *line = (struct baseline_line){ .alpha = alpha, .ticks_per_byte = ticks_per_byte };
 }
 
 static inline uint32_t baseline_ring_count(const struct baseline_ring *ring)
@@ -58,16 +61,15 @@ static inline uint32_t baseline_ring_count(const struct baseline_ring *ring)
     return ring->end - ring->first;
 }
 
-static inline void baseline_ring_push(struct baseline_ring *ring, uint32_t number, uint32_t time)
-{
-    uint32_t slot = ring->end++ % BASELINE_ROOM;
-    ring->number[slot] = number;
-    ring->time[slot] = time;
-}
-
 static inline bool baseline_waiting(const struct baseline_line *line)
 {
-    return line->head <= line->admitted;
+    return line->gone != line->admitted;
+}
+
+/* Only asked while unmarked packets wait. */
+static inline uint32_t baseline_first_unmarked(const struct baseline_line *line)
+{
+    return line->number[line->unmarked.first % BASELINE_ROOM];
 }
 
 /* The refusals that both markings share, after 4 was looked for. */
@@ -76,7 +78,9 @@ static inline int baseline_no_room(const struct baseline_line *line,
 {
     if (baseline_waiting(line) && line->free < instant)
         return 5;
-    return baseline_ring_count(ring) == BASELINE_ROOM ? 6 : 0;
+    if (baseline_ring_count(ring) == BASELINE_ROOM)
+        return 6;
+    return line->admitted == UINT32_MAX ? 7 : 0;
 }
 
 static inline void baseline_admit(struct baseline_line *line, struct baseline_ring *ring,
@@ -85,11 +89,12 @@ static inline void baseline_admit(struct baseline_line *line, struct baseline_ri
     if (!baseline_waiting(line) && line->free < instant)
         line->free = instant;
     line->clock = instant;
-    baseline_ring_push(ring, ++line->admitted, time);
+    line->admitted++;
+    ring->time[ring->end++ % BASELINE_ROOM] = time;
 }
 
 /* Gives the refusal, or 0 and the packet's extra delay in *extra_delay.  Lengths and
- * the last instant are the reader's to judge, and no trace uses up the numbers. */
+ * the last instant are the caller's to judge: a trace's reader has done so before. */
 static inline int baseline_unmarked(struct baseline_line *line, uint32_t length,
                                     uint64_t instant, uint32_t *extra_delay)
 {
@@ -103,8 +108,10 @@ static inline int baseline_unmarked(struct baseline_line *line, uint32_t length,
     uint64_t extra = rest + line->unmarked_work;
     if ((others || (line->unmarked_on_line && rest != 0)) && line->last_extra < extra)
         extra = line->last_extra;
+    uint32_t slot = line->unmarked.end % BASELINE_ROOM;
+    line->number[slot] = line->admitted + 1;
     if (others)
-        line->difference[line->unmarked.end % BASELINE_ROOM] = line->last_extra - (uint32_t)extra;
+        line->difference[slot] = line->last_extra - (uint32_t)extra;
     else
         line->first_extra = (uint32_t)extra;
     line->last_extra = (uint32_t)extra;
@@ -134,14 +141,14 @@ static inline int baseline_marked(struct baseline_line *line, uint32_t length, u
 /* Drops the marked packets ahead of the first unmarked one and starts that. */
 static inline struct baseline_start baseline_start_unmarked(struct baseline_line *line)
 {
+    uint32_t number = baseline_first_unmarked(line);
     uint32_t slot = line->unmarked.first++ % BASELINE_ROOM;
-    uint32_t number = line->unmarked.number[slot];
     struct baseline_start start = { .instant = line->free, .number = number,
                                     .extra_delay = line->first_extra,
-                                    .dropped = number - line->head };
+                                    .dropped = number - line->gone - 1 };
     line->marked.first += start.dropped;
     line->marked_dropped += start.dropped;
-    line->head = number + 1;
+    line->gone = number;
     line->free += line->unmarked.time[slot];
     line->unmarked_work -= line->unmarked.time[slot];
     line->unmarked_on_line = true;
@@ -156,8 +163,8 @@ static inline struct baseline_start baseline_start_unmarked(struct baseline_line
 static inline struct baseline_start baseline_start_marked(struct baseline_line *line)
 {
     uint32_t time = line->marked.time[line->marked.first++ % BASELINE_ROOM];
-    struct baseline_start start = { .instant = line->free, .number = line->head };
-    line->head++;
+    line->gone++;
+    struct baseline_start start = { .instant = line->free, .number = line->gone };
     line->free += time;
     line->first_extra += time;
     line->last_extra += time;
@@ -170,7 +177,7 @@ static inline bool baseline_marked_is_next(const struct baseline_line *line)
 {
     if (baseline_ring_count(&line->unmarked) == 0)
         return true;
-    if (line->unmarked.number[line->unmarked.first % BASELINE_ROOM] == line->head)
+    if (baseline_first_unmarked(line) == line->gone + 1)
         return false;
     return line->first_extra + line->marked.time[line->marked.first % BASELINE_ROOM]
            <= line->alpha;

@@ -1,14 +1,25 @@
 /* Follows document 01's rules of the line word by word, with no thought for speed. */
 #include "second_line.h"
 
-void second_open(struct second_line *line, uint64_t alpha, uint64_t ticks_per_byte)
+int second_settings_refusal(uint64_t alpha, uint64_t ticks_per_byte)
 {
-    line->alpha = alpha;
-    line->ticks_per_byte = ticks_per_byte;
+    if (alpha < 1 || alpha > MOST_ALPHA)
+        return 8;
+    if (ticks_per_byte < 1 || ticks_per_byte > MOST_TICKS_PER_BYTE)
+        return 9;
+    return 0;
+}
+
+int second_open(struct second_line *line, uint64_t alpha, uint64_t ticks_per_byte)
+{
+    int refusal = second_settings_refusal(alpha, ticks_per_byte);
+    line->alpha = refusal == 0 ? alpha : 1;
+    line->ticks_per_byte = refusal == 0 ? ticks_per_byte : 1;
     line->clock = 0;
     line->falls_free = 0;
     line->admitted = 0;
     line->gone = 0;
+    return refusal;
 }
 
 static uint64_t later(uint64_t one, uint64_t other)
@@ -82,7 +93,8 @@ static struct second_answer refused(int refusal)
     return (struct second_answer){ .letter = 'R', .refusal = refusal };
 }
 
-/* Refusal 7 is missing: a trace has far fewer events than there are numbers. */
+/* In this order no sum or product can leave 64 bits, whatever the call's numbers.
+ * Refusal 7 is missing: a line is given far fewer packets than there are numbers. */
 static int arrival_refusal(const struct second_line *line, const struct packet *packet)
 {
     if (packet->length < 1 || packet->length > MOST_LENGTH)
@@ -135,7 +147,8 @@ static struct second_answer decide(struct second_line *line)
         .number = index + 1,
         .start = due_instant(line),
         .extra_delay = packet->marking == UNMARKED ? extra_delay(line, index) : 0,
-        .dropped = index - line->gone };
+        .dropped = index - line->gone,
+        .packet = *packet };
     for (size_t i = line->gone; i < index; i++)
         line->packets[i].fate = DROPPED;
     packet->fate = STARTED;
@@ -161,7 +174,8 @@ struct second_answer second_take(struct second_line *line, const struct event *e
     if (event->kind == ADVANCE)
         return advance(line, event->instant);
     return arrive(line, (struct packet){ .marking = event->kind, .length = event->length,
-                                         .arrival = event->instant, .fate = WAITING });
+                                         .place = event->place, .arrival = event->instant,
+                                         .fate = WAITING });
 }
 
 uint64_t second_tally(const struct second_line *line, enum kind marking, enum fate fate)

@@ -1,0 +1,114 @@
+/* The baseline's direct calls: its line in the words that a host lends. */
+#ifndef BASELINE_HOST_H
+#define BASELINE_HOST_H
+
+#include "baseline_line.h"
+#include "bilgethrum.h"
+
+/* What a start hands back and the decision itself has no need of. */
+struct baseline_packet {
+    baseline_ticks arrival;
+    uint32_t length;
+    uint32_t place;
+};
+
+/* Each packet lies in the slot of its marking's ring. */
+struct baseline_host {
+    struct baseline_line line;
+    struct baseline_packet unmarked[BASELINE_ROOM];
+    struct baseline_packet marked[BASELINE_ROOM];
+};
+
+_Static_assert(sizeof(struct baseline_host) <= sizeof(bilgethrum_line)
+               && _Alignof(struct baseline_host) <= _Alignof(bilgethrum_line),
+               "the baseline's line lies in the host's words");
+
+/* The words are never looked at as words here, so no two views of them can clash. */
+static inline struct baseline_host *baseline_host_in(bilgethrum_line *words)
+{
+    return (struct baseline_host *)(void *)words;
+}
+
+static inline const struct baseline_host *baseline_host_within(const bilgethrum_line *words)
+{
+    return (const struct baseline_host *)(const void *)words;
+}
+
+static inline uint32_t baseline_settings_refusal(bilgethrum_settings settings)
+{
+    if (settings.alpha - 1 >= BILGETHRUM_MOST_ALPHA)
+        return BILGETHRUM_ALPHA;
+    if (settings.ticks_per_byte - 1 >= BILGETHRUM_MOST_TICKS_PER_BYTE)
+        return BILGETHRUM_TICKS_PER_BYTE;
+    return BILGETHRUM_NOT_REFUSED;
+}
+
+static inline uint32_t baseline_host_open(bilgethrum_line *words, bilgethrum_settings settings)
+{
+    uint32_t refusal = baseline_settings_refusal(settings);
+    if (refusal != 0)
+        settings = (bilgethrum_settings){ .alpha = 1, .ticks_per_byte = 1 };
+    baseline_open(&baseline_host_in(words)->line, (uint32_t)settings.alpha,
+                  settings.ticks_per_byte);
+    return refusal;
+}
+
+static inline bilgethrum_arrival baseline_host_arrive(bilgethrum_line *words,
+                                                      bilgethrum_packet packet)
+{
+    struct baseline_host *host = baseline_host_in(words);
+    struct baseline_line *line = &host->line;
+    if (packet.length - 1 >= BILGETHRUM_MOST_LENGTH)
+        return (bilgethrum_arrival){ .refusal = BILGETHRUM_LENGTH };
+    if (packet.arrival > BILGETHRUM_MOST_INSTANT)
+        return (bilgethrum_arrival){ .refusal = BILGETHRUM_INSTANT };
+    uint32_t extra = 0;
+    int refusal = packet.marked != 0
+        ? baseline_marked(line, packet.length, packet.arrival)
+        : baseline_unmarked(line, packet.length, packet.arrival, &extra);
+    if (refusal != 0)
+        return (bilgethrum_arrival){ .refusal = (uint32_t)refusal };
+    struct baseline_packet *slot = packet.marked != 0
+        ? &host->marked[(line->marked.end - 1) % BASELINE_ROOM]
+        : &host->unmarked[(line->unmarked.end - 1) % BASELINE_ROOM];
+    *slot = (struct baseline_packet){ packet.arrival, packet.length, packet.place };
+    return (bilgethrum_arrival){ .number = line->admitted, .extra = extra };
+}
+
+/* The packet on the line has just left the front of its ring. */
+static inline bilgethrum_packet baseline_host_on_line(const struct baseline_host *host)
+{
+    bool marked = !host->line.unmarked_on_line;
+    const struct baseline_packet *slot = marked
+        ? &host->marked[(host->line.marked.first - 1) % BASELINE_ROOM]
+        : &host->unmarked[(host->line.unmarked.first - 1) % BASELINE_ROOM];
+    return (bilgethrum_packet){ .arrival = slot->arrival, .length = slot->length,
+                                .place = slot->place, .marked = marked };
+}
+
+static inline bilgethrum_decision baseline_host_advance(bilgethrum_line *words, uint64_t at)
+{
+    struct baseline_host *host = baseline_host_in(words);
+    bool decided;
+    struct baseline_start start;
+    if (at > BILGETHRUM_MOST_INSTANT)
+        return (bilgethrum_decision){ .refusal = BILGETHRUM_INSTANT };
+    int refusal = baseline_advance(&host->line, at, &decided, &start);
+    if (refusal != 0 || !decided)
+        return (bilgethrum_decision){ .refusal = (uint32_t)refusal };
+    return (bilgethrum_decision){ .number = start.number, .start = start.instant,
+                                  .extra = start.extra_delay, .dropped = start.dropped,
+                                  .packet = baseline_host_on_line(host) };
+}
+
+static inline bilgethrum_tallies baseline_host_tally(const bilgethrum_line *words)
+{
+    const struct baseline_line *line = &baseline_host_within(words)->line;
+    return (bilgethrum_tallies){ .unmarked_admitted = line->unmarked_admitted,
+                                 .marked_admitted = line->marked_admitted,
+                                 .unmarked_started = line->unmarked_started,
+                                 .marked_started = line->marked_started,
+                                 .marked_dropped = line->marked_dropped };
+}
+
+#endif
