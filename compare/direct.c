@@ -13,7 +13,7 @@ _Static_assert(sizeof(bilgethrum_arrival) == 16 && offsetof(bilgethrum_arrival, 
 _Static_assert(sizeof(bilgethrum_decision) == 56 && offsetof(bilgethrum_decision, start) == 8
                && offsetof(bilgethrum_decision, dropped) == 24
                && offsetof(bilgethrum_decision, packet) == 32, "decision");
-_Static_assert(sizeof(bilgethrum_tallies) == 20 && sizeof(bilgethrum_writing) == 8, "numbers");
+_Static_assert(sizeof(bilgethrum_tallies) == 20 && sizeof(bilgethrum_writing) == 16, "numbers");
 _Static_assert(sizeof(bilgethrum_reading) == 32 && offsetof(bilgethrum_reading, settings) == 16,
                "reading");
 

@@ -61,7 +61,7 @@ static void read_image(struct random *random, size_t events, const uint8_t *imag
         || given.events != wanted.events || given.settings.alpha != wanted.alpha
         || given.settings.ticks_per_byte != wanted.ticks_per_byte) {
         printf("wanted: refusal %d, block %zu, events %zu, alpha %" PRIu64 ", ticks %" PRIu64 "\n"
-               "given: refusal %" PRIu32 ", block %" PRIu32 ", events %" PRIu32 ", alpha %" PRIu64
+               "given: refusal %" PRIu32 ", block %" PRIu32 ", events %zu, alpha %" PRIu64
                ", ticks %" PRIu32 "\n", wanted.refusal, wanted.block, wanted.events, wanted.alpha,
                wanted.ticks_per_byte, given.refusal, given.block, given.events,
                given.settings.alpha, given.settings.ticks_per_byte);

@@ -125,7 +125,7 @@ static void write_image(bilgethrum_settings settings, size_t length, bool at_end
                                                 area_bytes(&lent_image), length);
     count_call(CALL_WRITE, given.refusal);
     if (given.refusal != (uint32_t)wanted.refusal || given.bytes != wanted.bytes) {
-        printf("wanted: refusal %d, bytes %zu\ngiven: refusal %" PRIu32 ", bytes %" PRIu32 "\n",
+        printf("wanted: refusal %d, bytes %zu\ngiven: refusal %" PRIu32 ", bytes %zu\n",
                wanted.refusal, wanted.bytes, given.refusal, given.bytes);
         columns_failed("a writing");
     }

@@ -158,7 +158,7 @@ enum bilgethrum_kind {
 typedef struct bilgethrum_reading {
     uint32_t refusal; /* 0, or 11 to 20 */
     uint32_t block;   /* the index of the refused block; 0 for 11 and 20 */
-    uint32_t events;  /* how many were read; 0 where refused */
+    size_t events;  /* how many were read; 0 where refused */
     bilgethrum_settings settings; /* the image's; both 0 where refused */
 } bilgethrum_reading;
 
@@ -173,7 +173,7 @@ bilgethrum_reading bilgethrum_read(const uint8_t *image, size_t image_len,
 
 typedef struct bilgethrum_writing {
     uint32_t refusal; /* 0, 8, 9, or 21 to 24 */
-    uint32_t bytes;   /* how long the image is; 0 where refused */
+    size_t bytes;     /* how long the image is; 0 where refused */
 } bilgethrum_writing;
 
 /* Writes the events of the columns as an image, at the front of the lent one, for which
