@@ -1,22 +1,27 @@
 -- An advance for a C host, from the scheduler's: what it leaves is kept, or nothing is changed. Assumes nothing.
-use mathlib.Core.Path.{_≡_, refl, sym, ap, subst, subst⁻¹, _∙_}
+use mathlib.Core.Path.{_≡_, refl, sym, ap, subst⁻¹, _∙_}
+use mathlib.Core.Bool.{Bool, true, false}
 use mathlib.Core.List.{[], _∷_}
 use Prim.Native.Nat.{ℕ}
-use borrow.Author.Tests.{eq-eqb, ne-eqb}
+use lib.Dec.{eqb}
+use borrow.Author.Tests.{eqb-false, eq-eqb, ne-eqb}
 use Rattle.units.specs.declared.Instant.{Instant}
 use Rattle.rules.specs.Step.{advance}
 use Rattle.room.specs.Room.{Room}
 use Rattle.scheduler_state.specs.declared.Scheduler.{Scheduler}
+use Rattle.scheduler_state.specs.Pick.{pick}
 use Rattle.scheduler_answers.specs.declared.Decision.{Decision}
 use Rattle.scheduler_answers.specs.declared.Outcome.{Outcome}
 use Rattle.scheduler_answers.specs.declared.Advanced.{Advanced}
-use Rattle.scheduler_answers.specs.Values.{advanceValues}
+use Rattle.scheduler_answers.specs.Values.{advanceValues, advanceNumbers, handed}
+use Rattle.scheduler.specs.Steps.{Steps}
 use Rattle.scheduler.specs.Promises.{Advances}
+use Rattle.scheduler.proofs.Stepped.{advance-steps}
 use Rattle.scheduler_guarantees.proofs.Unchanged.{refused-unchanged}
 use Rattle.scheduler_kept.specs.Words.{schedulerIn}
 use Rattle.bilgethrum.specs.declared.HostDecision.{HostDecision}
 use Rattle.bilgethrum.specs.Host.{hostDecision}
-use Rattle.bilgethrum.specs.Promises.{OnLine, keeping, advanced, HostAdvances}
+use Rattle.bilgethrum.specs.Promises.{OnLine, keeping, advanced, advancedWords, HostAdvances}
 use Rattle.bilgethrum.proofs.Kept.{keep-alike, steps-on}
 
 -- An answer with a refusal number is a refusal.
@@ -35,37 +40,40 @@ module _ (b : Room) (t : ℕ) where
   abbrev given : HostDecision
   given = hostDecision (advanced b t .answer)
 
-  -- The promise, of what it defines.
-  defined : (a : Advanced) → Advances s b at a → Advances s b at (advanced b t)
-  defined a h = subst (λ (y : Advanced). Advances s b at y) (h .value) h
+  -- A refusal leaves the scheduler as it was.
+  unchanged : (given .refusal ≡ 0 → ⊥) → advanced b t .scheduler ≡ s
+  unchanged z = let n = refusal (advanced b t .answer) z in refused-unchanged s b (advance t) (n .0) (n .1) .0
 
-  kept-then : Advances s b at (advanced b t) → given .refusal ≡ 0 → HostAdvances b t given (keeping (advanced b t .scheduler) b)
-  kept-then h z =
-      record {
-        value = refl;
-        words = rw (eq-eqb (given .refusal) 0 z);
-        kept = keep-alike (advanced b t .scheduler) b (h .kept) .next;
-        steps = λ o. steps-on (h .steps o) (keep-alike (advanced b t .scheduler) b (h .steps o .next));
-      }
+  -- The step by the rules, whether its refusal number is 0 or not.
+  abbrev StepsTo : OnLine b → Room → Type 0
+  StepsTo o left =
+      Steps o (advance t) (advanceValues (advanced b t .answer)) (advanceNumbers (advanced b t .answer)) (handed (advanced b t .answer))
+      (schedulerIn left) left
 
-  unchanged-then : Advances s b at (advanced b t) → (given .refusal ≡ 0 → ⊥) → OnLine b → HostAdvances b t given b
-  unchanged-then h z line =
-      let n = refusal (advanced b t .answer) z in
-      let same = refused-unchanged s b (advance t) (n .0) (n .1) .0 in
-      record { value = refl; words = rw (ne-eqb (given .refusal) 0 z); kept = line; steps = λ o. rw same at (h .steps o) }
+  by-refusal : (o : OnLine b) (k : Bool) → eqb (given .refusal) 0 ≡ k → StepsTo o (pick k (keeping (advanced b t .scheduler) b) b)
+  by-refusal o true e = let x = advance-steps s b o t in steps-on x (keep-alike (advanced b t .scheduler) b (x .next))
+  by-refusal o false e = rw (unchanged (eqb-false _ _ e)) at (advance-steps s b o t)
 
-  pub advance-kept : (a : Advanced) (x : HostDecision) (then : Room) → Advances s b at a → x ≡ hostDecision (a .answer) → x .refusal ≡ 0
-      → then ≡ keeping (a .scheduler) b → HostAdvances b t x then
-  advance-kept a x then h e z f =
-      let value : x ≡ given = e ∙ ap (λ (y : Advanced). hostDecision (y .answer)) (h .value) in
-      let words : then ≡ keeping (advanced b t .scheduler) b = f ∙ ap (λ (y : Advanced). keeping (y .scheduler) b) (h .value) in
-      subst⁻¹ (λ (y : HostDecision). HostAdvances b t y then) value
+  pub advance-steps-on : (o : OnLine b) → StepsTo o (advancedWords b t)
+  advance-steps-on o = by-refusal o (eqb (given .refusal) 0) refl
+
+  defined : (x : HostDecision) (left : Room) → OnLine b → x ≡ given → left ≡ advancedWords b t → HostAdvances b t x left
+  defined x left line value words =
+      subst⁻¹ (λ (y : HostDecision). HostAdvances b t y left) value
       (subst⁻¹ (λ (l : Room). HostAdvances b t given l) words
-      (kept-then (defined a h) (ap (λ (y : HostDecision). y .refusal) (sym value) ∙ z)))
+      (record { value = refl; words = refl; kept = advance-steps-on line .next; steps = advance-steps-on }))
 
-  pub advance-unchanged : (a : Advanced) (x : HostDecision) → OnLine b → Advances s b at a → x ≡ hostDecision (a .answer)
-      → (x .refusal ≡ 0 → ⊥) → HostAdvances b t x b
-  advance-unchanged a x line h e z =
-      let value : x ≡ given = e ∙ ap (λ (y : Advanced). hostDecision (y .answer)) (h .value) in
-      subst⁻¹ (λ (y : HostDecision). HostAdvances b t y b) value
-      (unchanged-then (defined a h) (λ k. z (ap (λ (y : HostDecision). y .refusal) value ∙ k)) line)
+  module _ (a : Advanced) (x : HostDecision) (line : OnLine b) (h : Advances s b at a) (e : x ≡ hostDecision (a .answer)) where
+    value : x ≡ given
+    value = e ∙ ap (λ (y : Advanced). hostDecision (y .answer)) (h .value)
+
+    pub advance-kept : (then : Room) → x .refusal ≡ 0 → then ≡ keeping (a .scheduler) b → HostAdvances b t x then
+    advance-kept then z f =
+        defined x then line value
+        (rw (eq-eqb (given .refusal) 0 (ap (λ (y : HostDecision). y .refusal) (sym value) ∙ z))
+        (f ∙ ap (λ (y : Advanced). keeping (y .scheduler) b) (h .value)))
+
+    pub advance-unchanged : (x .refusal ≡ 0 → ⊥) → HostAdvances b t x b
+    advance-unchanged z =
+        let refused : given .refusal ≡ 0 → ⊥ = λ k. z (ap (λ (y : HostDecision). y .refusal) value ∙ k) in
+        defined x b line value (rw (ne-eqb (given .refusal) 0 refused) refl)

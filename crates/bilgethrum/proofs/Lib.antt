@@ -3,4 +3,5 @@ pub mod Opens
 pub mod Arrives
 pub mod Advances
 pub mod Traces
+pub mod Lists
 pub mod Unique

@@ -1,5 +1,5 @@
 -- An opening for a C host, from the scheduler's. Assumes nothing.
-use mathlib.Core.Path.{_≡_, ap, subst⁻¹, _∙_}
+use mathlib.Core.Path.{_≡_, refl, ap, subst⁻¹, _∙_}
 use Prim.Native.Nat.{ℕ}
 use Rattle.room.specs.Room.{Room}
 use Rattle.room.specs.Held.{Sized}
@@ -7,6 +7,7 @@ use Rattle.scheduler_answers.specs.declared.Opened.{Opened}
 use Rattle.scheduler_answers.specs.Values.{openingNumber}
 use Rattle.scheduler.specs.Machine.{Alike}
 use Rattle.scheduler.specs.Promises.{Opens}
+use Rattle.scheduler.proofs.Public as public
 use Rattle.scheduler_kept.specs.Words.{schedulerIn}
 use Rattle.bilgethrum.specs.declared.HostSettings.{HostSettings}
 use Rattle.bilgethrum.specs.Host.{settingsFrom}
@@ -32,3 +33,7 @@ module _ (asked : HostSettings) (b : Room) (x : Opened) (h : Opens (settingsFrom
   host-opens n left e f =
       subst⁻¹ (λ (m : ℕ). HostOpens asked b m left) e
       (subst⁻¹ (λ (l : Room). HostOpens asked b (openingNumber (x .answer)) l) f as-kept)
+
+-- The opening as it is defined.
+pub opened-kept : (asked : HostSettings) (b : Room) → HostOpens asked b (openingNumber (opened asked .answer)) (keeping (opened asked .scheduler) b)
+opened-kept asked b = as-kept asked b (opened asked) (public.opened (settingsFrom asked) (opened asked) refl)

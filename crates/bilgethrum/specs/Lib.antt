@@ -1,3 +1,4 @@
 pub mod Host
 pub mod Promises
 pub mod Unique
+pub mod Lists

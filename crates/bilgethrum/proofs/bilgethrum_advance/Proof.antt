@@ -25,9 +25,8 @@ keep-requires c κs = search needs
 returns-2 : tie.Need-returns-2
 returns-2 c =
     let start = c .before .before .before .before .before .before .before .before .before in
-    advance-kept _ (start .args .at) (c .before .before .before .before .before .advance .result) (c .before .before .before .before .host-decision .result) _
-    (rw (c .before .before .before .before .before .before .before .scheduler-in .ensures) at (c .before .before .before .before .before .advance .ensures)) (c .before .before .before .before .host-decision .ensures) (c .before .before .if1 .left)
-    (c .keep .ensures)
+    advance-kept _ (start .args .at) (c .before .before .before .before .before .advance .result) (c .before .before .before .before .host-decision .result) (start .pre)
+    (rw (c .before .before .before .before .before .before .before .scheduler-in .ensures) at (c .before .before .before .before .before .advance .ensures)) (c .before .before .before .before .host-decision .ensures) _ (c .before .before .if1 .left) (c .keep .ensures)
 
 pub bilgethrum-advance-spec : {M : Type 1} → statement M
 bilgethrum-advance-spec =

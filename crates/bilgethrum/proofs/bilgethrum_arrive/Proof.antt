@@ -20,7 +20,8 @@ returns : tie.Need-returns
 returns c =
     let start = c .before .before .before .before .before .before .before .before in
     arrive-unchanged _ (start .args .packet) (c .before .before .before .arrive .result) _ (c .before .before .host-arrival .result) (start .pre)
-    (rw (c .before .before .before .before .before .before .scheduler-in .ensures, c .before .before .before .before .before .packet-from .ensures) at (c .before .before .before .arrive .ensures)) (c .before .before .host-arrival .ensures) (c .if1 .taken)
+    (rw (c .before .before .before .before .before .before .scheduler-in .ensures, c .before .before .before .before .before .packet-from .ensures) at (c .before .before .before .arrive .ensures)) (c .before .before .host-arrival .ensures)
+    (c .if1 .taken)
 
 keep-requires : tie.Need-keep-requires
 keep-requires c κs = search needs
@@ -28,9 +29,9 @@ keep-requires c κs = search needs
 returns-2 : tie.Need-returns-2
 returns-2 c =
     let start = c .before .before .before .before .before .before .before .before .before .before in
-    arrive-kept _ (start .args .packet) (c .before .before .before .before .before .arrive .result) _ (c .before .before .before .before .host-arrival .result) _
-    (rw (c .before .before .before .before .before .before .before .before .scheduler-in .ensures, c .before .before .before .before .before .before .before .packet-from .ensures) at (c .before .before .before .before .before .arrive .ensures)) (c .before .before .before .before .host-arrival .ensures) (c .before .before .if1 .left)
-    (c .keep .ensures)
+    arrive-kept _ (start .args .packet) (c .before .before .before .before .before .arrive .result) _ (c .before .before .before .before .host-arrival .result) (start .pre)
+    (rw (c .before .before .before .before .before .before .before .before .scheduler-in .ensures, c .before .before .before .before .before .before .before .packet-from .ensures) at (c .before .before .before .before .before .arrive .ensures)) (c .before .before .before .before .host-arrival .ensures) _
+    (c .before .before .if1 .left) (c .keep .ensures)
 
 pub bilgethrum-arrive-spec : {M : Type 1} → statement M
 bilgethrum-arrive-spec =
