@@ -290,12 +290,12 @@ pub extern "C" fn bilgethrum_advance(line: &mut Room, at: u64) -> HostDecision
     let scheduler = scheduler_in(line);
     let advanced = scheduler::advance(scheduler, Instant(at), line);
     let answer = advanced.answer;
-    let given = host_decision(answer);
-    if given.refusal != 0 {
-        return given;
+    let decided = host_decision(answer);
+    if decided.refusal != 0 {
+        return decided;
     }
     scheduler_kept::keep(advanced.scheduler, line);
-    given
+    decided
 }
 
 // The five tallies.
