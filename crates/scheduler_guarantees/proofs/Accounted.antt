@@ -27,7 +27,7 @@ use Rattle.scheduler_guarantees.specs.Lines.{Begun, begunIn}
 use Rattle.scheduler_guarantees.specs.Demands.{inForce, schedulerBy, linesBy}
 use Rattle.scheduler_guarantees.specs.Account.{HasStarted, WasDropped, IsWaiting, OneFate, TalliesCount, ClockIsLast}
 use Rattle.scheduler_guarantees.proofs.Told.{begunOf, member-from, member-to}
-use Rattle.scheduler_guarantees.proofs.Onward.{all-ranks}
+use Rattle.scheduler_guarantees.proofs.Onward.{all-ranks, admissions-read, gone-read}
 use Rattle.scheduler_guarantees.proofs.Demanded.{begun-same}
 
 -- As many as the tallies say were admitted.
@@ -97,9 +97,11 @@ one-fate-each settings lent z cs k a b =
     let total = all-ranks settings lent z cs in
     let many = admitted-count σ cs in
     let counted : admissionsOf (schedulerBy settings lent cs .tallies) ≡ admissions (after σ fresh cs) = omega (arith, f .represents .tallies) in
+    let read = admissions-read settings lent z cs in
+    let gone = gone-read settings lent z cs in
     exactly (started-same (startsBy σ cs) (linesBy settings lent cs) same k) (dropped-same (startsBy σ cs) (linesBy settings lent cs) same k) (
       λ h. omega (arith, above (goneOf (schedulerBy settings lent cs .tallies)) (after σ fresh cs .queue) (h .0) (f .represents .numbered) (h .1), h .2),
-      λ h. found (goneOf (schedulerBy settings lent cs .tallies)) k (after σ fresh cs .queue) (f .represents .numbered) h (omega arith),
+      λ h. found (goneOf (schedulerBy settings lent cs .tallies)) k (after σ fresh cs .queue) (f .represents .numbered) (omega arith) (omega arith),
     ) (one-fate σ cs k a (omega arith))
 
 pub tallies-count-each : TalliesCount

@@ -1,15 +1,16 @@
 -- From any list of calls on, the code follows the rules. Assumes nothing.
-use mathlib.Core.Path.{_≡_, refl, sym, ap, subst}
+use mathlib.Core.Path.{_≡_, refl, sym, ap, subst, _∙_}
 use mathlib.Core.List.{List, [], _∷_, _++_, map}
 use Prim.Native.Nat.{ℕ, _+_, _-_}
 use native.Mathlib.Omega.{arith}
 use lib.ListN.{length}
 use Rattle.units.specs.declared.Settings.{Settings}
 use Rattle.rules.specs.Terms.{Terms, termsOf}
-use Rattle.rules.specs.Line.{Line, fresh}
+use Rattle.rules.specs.Line.{Tallies, Line, fresh}
 use Rattle.rules.specs.Step.{Call, step, after, answers}
 use Rattle.rules.specs.Printed.{lineOf}
 use Rattle.rules.specs.Open as rules
+use Rattle.rules.proofs.Counted.{tallies-count}
 use Rattle.room.specs.Room.{Room}
 use Rattle.room.specs.Held.{Sized}
 use Rattle.scheduler_state.specs.Counts.{admissionsOf, goneOf}
@@ -18,7 +19,9 @@ use Rattle.scheduler.specs.Represents.{Represents}
 use Rattle.scheduler.specs.Agreement.{Faithful}
 use Rattle.scheduler.proofs.Tests.{ranks}
 use Rattle.scheduler.proofs.Follows.{Follows, FitOn, follows, fit-from, fit-now, all-faithful}
-use Rattle.scheduler_guarantees.specs.Demands.{inForce, schedulerBy, roomBy, waitingCount}
+use Rattle.scheduler_guarantees.specs.Lines.{admissionsIn, goneIn}
+use Rattle.scheduler_guarantees.specs.Demands.{inForce, schedulerBy, roomBy, linesBy, waitingIn}
+use Rattle.scheduler_guarantees.proofs.Told.{admissions-told, gone-told}
 
 after-more : (σ : Terms) (l : Line) (cs more : List Call) → after σ l (cs ++ more) ≡ after σ (after σ l cs) more
 unfolding after
@@ -69,5 +72,20 @@ module _ (settings : Settings) (lent : Room) (z : Sized lent) (cs : List Call) w
   pub all-ranks : goneOf (schedulerBy settings lent cs .tallies) + length (line .queue) ≡ admissionsOf (schedulerBy settings lent cs .tallies)
   all-ranks = ranks (termsOf w) (schedulerBy settings lent cs) (roomBy settings lent cs) line (faithful .represents) (fit-now w line fit-on)
 
-  pub count-is : waitingCount (schedulerBy settings lent cs) ≡ length (line .queue)
-  count-is = omega (arith, all-ranks)
+  -- What the lines say was admitted, and is gone, is what the tallies say.
+  pub admissions-read : admissionsIn (linesBy settings lent cs) ≡ admissionsOf (schedulerBy settings lent cs .tallies)
+  admissions-read =
+      ap admissionsIn (faithful .given)
+      ∙ (admissions-told (answers (termsOf w) fresh cs)
+      ∙ (ap (λ (k : Tallies). k .unmarkedAdmitted + k .markedAdmitted) (sym (tallies-count (termsOf w) cs))
+      ∙ omega (arith, faithful .represents .tallies)))
+
+  pub gone-read : goneIn (linesBy settings lent cs) ≡ goneOf (schedulerBy settings lent cs .tallies)
+  gone-read =
+      ap goneIn (faithful .given)
+      ∙ (gone-told (answers (termsOf w) fresh cs)
+      ∙ (ap (λ (k : Tallies). k .unmarkedStarted + k .markedStarted + k .markedDropped) (sym (tallies-count (termsOf w) cs))
+      ∙ omega (arith, faithful .represents .tallies)))
+
+  pub count-is : waitingIn (linesBy settings lent cs) ≡ length (line .queue)
+  count-is = omega (arith, all-ranks, admissions-read, gone-read)

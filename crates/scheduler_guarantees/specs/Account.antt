@@ -11,10 +11,9 @@ use Rattle.rules.specs.Printed.{tallyLine}
 use Rattle.room.specs.Room.{Room}
 use Rattle.room.specs.Held.{Sized}
 use Rattle.scheduler_state.specs.declared.Scheduler.{Scheduler}
-use Rattle.scheduler_state.specs.Counts.{admissionsOf, goneOf}
 use Rattle.scheduler_answers.specs.Values.{tallyValues}
 use Rattle.scheduler.specs.Machine.{made}
-use Rattle.scheduler_guarantees.specs.Lines.{Begun, begunIn}
+use Rattle.scheduler_guarantees.specs.Lines.{Begun, begunIn, admissionsIn, goneIn}
 use Rattle.scheduler_guarantees.specs.Demands.{inForce, schedulerBy, linesBy}
 
 -- Number k has started; was dropped, being just below the number that starts; waits, being above all that are gone.
@@ -24,8 +23,8 @@ HasStarted k ls = (x : Begun) × List·Memᴰ x (begunIn ls) × (x .number ≡ k
 abbrev pub WasDropped : (k : ℕ) → List (List ℕ) → Type 0
 WasDropped k ls = (x : Begun) × List·Memᴰ x (begunIn ls) × (k < x .number) × (x .number ≤ k + x .dropped)
 
-abbrev pub IsWaiting : (k : ℕ) → Scheduler → Type 0
-IsWaiting k s = goneOf (s .tallies) < k
+abbrev pub IsWaiting : (k : ℕ) → List (List ℕ) → Type 0
+IsWaiting k ls = goneIn ls < k
 
 -- Every admitted number is at each moment exactly one of waiting, started, dropped.
 abbrev pub OneFate : Type 0
@@ -34,8 +33,8 @@ OneFate =
     → Sized lent
     → (cs : List Call) (k : ℕ)
     → 1 ≤ k
-    → k ≤ admissionsOf (schedulerBy settings lent cs .tallies)
-    → ExactlyOne (HasStarted k (linesBy settings lent cs)) (WasDropped k (linesBy settings lent cs)) (IsWaiting k (schedulerBy settings lent cs))
+    → k ≤ admissionsIn (linesBy settings lent cs)
+    → ExactlyOne (HasStarted k (linesBy settings lent cs)) (WasDropped k (linesBy settings lent cs)) (IsWaiting k (linesBy settings lent cs))
 
 -- The five tallies are the counts over the answers, and the clock is the instant of the last accepted call.
 abbrev pub TalliesCount : Type 0

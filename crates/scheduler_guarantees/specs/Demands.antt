@@ -16,10 +16,9 @@ use Rattle.rules.specs.Open as rules
 use Rattle.room.specs.Room.{Room}
 use Rattle.room.specs.Held.{Sized}
 use Rattle.scheduler_state.specs.declared.Scheduler.{Scheduler}
-use Rattle.scheduler_state.specs.Counts.{admissionsOf, goneOf}
 use Rattle.scheduler.specs.Calls.{openOf}
 use Rattle.scheduler.specs.Machine.{made, schedulerAfter, roomAfter, valuesBy}
-use Rattle.scheduler_guarantees.specs.Lines.{Begun, begunIn, admittedIn}
+use Rattle.scheduler_guarantees.specs.Lines.{Begun, begunIn, admissionsIn, goneIn, admittedIn}
 
 -- Alpha and the transmission time, as the opening put them in force.
 abbrev pub inForce : Settings → Terms
@@ -50,9 +49,9 @@ OnTime =
     → x .number ≡ r .number
     → (r .start ≤ x .at) × (x .at ≤ r .start + inForce settings .alpha)
 
--- How many packets wait.
-abbrev pub waitingCount : Scheduler → ℕ
-waitingCount s = admissionsOf (s .tallies) - goneOf (s .tallies)
+-- How many packets wait, read off the lines.
+abbrev pub waitingIn : List (List ℕ) → ℕ
+waitingIn ls = admissionsIn ls - goneIn ls
 
 -- The numbers of the first n starts.
 abbrev pub numberOf : Begun → ℕ
@@ -68,13 +67,13 @@ InTurn =
     → Sized lent
     → (cs : List Call) (len place t n e : ℕ) (then : List Call)
     → made (schedulerBy settings lent cs) (roomBy settings lent cs) (arrive Unmarked len place t) .values ≡ 65 ∷ n ∷ e ∷ []
-    → waitingCount (schedulerBy settings lent cs)
+    → waitingIn (linesBy settings lent cs)
     < length
     (begunIn
     (valuesBy (made (schedulerBy settings lent cs) (roomBy settings lent cs) (arrive Unmarked len place t) .scheduler)
     (made (schedulerBy settings lent cs) (roomBy settings lent cs) (arrive Unmarked len place t) .room) then))
     → List·Memᴰ n
-    (firstStarts (suc (waitingCount (schedulerBy settings lent cs)))
+    (firstStarts (suc (waitingIn (linesBy settings lent cs)))
     (valuesBy (made (schedulerBy settings lent cs) (roomBy settings lent cs) (arrive Unmarked len place t) .scheduler)
     (made (schedulerBy settings lent cs) (roomBy settings lent cs) (arrive Unmarked len place t) .room) then))
 

@@ -31,6 +31,15 @@ begunIn (l ∷ ls) = pick (isStart l) (begunBy l ∷ begunIn ls) (begunIn ls)
 abbrev pub isAdmission : List ℕ → Bool
 isAdmission l = eqb (getD l 0 0) 65 || eqb (getD l 0 0) 77
 
+-- How many packets the lines say were admitted, and how many are gone: each line S takes the packet that starts and those it drops.
+abbrev pub admissionsIn : List (List ℕ) → ℕ
+admissionsIn [] = 0
+admissionsIn (l ∷ ls) = pick (isAdmission l) (1 + admissionsIn ls) (admissionsIn ls)
+
+abbrev pub goneIn : List (List ℕ) → ℕ
+goneIn [] = 0
+goneIn (l ∷ ls) = pick (isStart l) (1 + begunBy l .dropped + goneIn ls) (goneIn ls)
+
 -- The admitted packets: each arrival that was answered so, with the call's own marking, length, place and instant, numbered from n in order.
 abbrev pub admittedIn : (n : ℕ) → List Call → List (List ℕ) → List Arrival
 admittedIn n [] ls = []
