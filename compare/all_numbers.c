@@ -125,15 +125,15 @@ static void use_last_numbers(uint64_t instant)
 /* All numbers are used; the earlier refusals still come first. */
 static void refuse_in_order(uint64_t instant)
 {
-    refuse(BILGETHRUM_ROOM_FULL, 0, instant);
-    refuse(BILGETHRUM_ROOM_FULL, 1, instant);
-    refuse(BILGETHRUM_OVERDUE, 0, instant + 2);
-    refuse(BILGETHRUM_OVERDUE, 1, instant + 2);
-    refuse(BILGETHRUM_BEFORE_CLOCK, 0, instant - 1);
-    refuse(BILGETHRUM_INSTANT, 0, BILGETHRUM_MOST_INSTANT + 1);
-    refuse_packet(BILGETHRUM_TOO_LONG,
+    refuse(BILGETHRUM_REFUSED_ROOM_FULL, 0, instant);
+    refuse(BILGETHRUM_REFUSED_ROOM_FULL, 1, instant);
+    refuse(BILGETHRUM_REFUSED_OVERDUE, 0, instant + 2);
+    refuse(BILGETHRUM_REFUSED_OVERDUE, 1, instant + 2);
+    refuse(BILGETHRUM_REFUSED_BEFORE_CLOCK, 0, instant - 1);
+    refuse(BILGETHRUM_REFUSED_INSTANT, 0, BILGETHRUM_MOST_INSTANT + 1);
+    refuse_packet(BILGETHRUM_REFUSED_TOO_LONG,
                   (bilgethrum_packet){ .arrival = instant, .length = 2, .marked = 1 });
-    refuse_packet(BILGETHRUM_LENGTH, (bilgethrum_packet){ .arrival = instant });
+    refuse_packet(BILGETHRUM_REFUSED_LENGTH, (bilgethrum_packet){ .arrival = instant });
 }
 
 /* What waits is decided as ever: each unmarked packet starts with the extra delay 1, and
@@ -144,8 +144,8 @@ static void decide_what_waits(uint64_t instant)
     for (uint64_t i = 0; i < BILGETHRUM_MOST_WAITING; i++) {
         uint64_t now = instant + 1 + i;
         start(first + 2 * i, 0, instant, now, 1, i == 0 ? 0 : 1);
-        refuse(BILGETHRUM_NUMBERS_USED, 0, now);
-        refuse(i == 0 ? BILGETHRUM_ROOM_FULL : BILGETHRUM_NUMBERS_USED, 1, now);
+        refuse(BILGETHRUM_REFUSED_NUMBERS_USED, 0, now);
+        refuse(i == 0 ? BILGETHRUM_REFUSED_ROOM_FULL : BILGETHRUM_REFUSED_NUMBERS_USED, 1, now);
     }
     start(ALL_NUMBERS, 1, instant, instant + 1 + BILGETHRUM_MOST_WAITING, 0, 0);
 }
@@ -158,8 +158,8 @@ static void stay_empty(uint64_t instant)
     if (given.refusal != 0 || given.number != 0 || given.start != 0 || given.extra != 0
         || given.dropped != 0 || given.packet.length != 0)
         wrong("an advance with nothing due", ALL_NUMBERS);
-    refuse(BILGETHRUM_NUMBERS_USED, 0, instant);
-    refuse(BILGETHRUM_NUMBERS_USED, 1, instant);
+    refuse(BILGETHRUM_REFUSED_NUMBERS_USED, 0, instant);
+    refuse(BILGETHRUM_REFUSED_NUMBERS_USED, 1, instant);
 }
 
 int main(void)
@@ -174,7 +174,7 @@ int main(void)
     printf("%" PRIu64 " numbers used: all\n", ALL_NUMBERS);
     refuse_in_order(instant);
     decide_what_waits(instant);
-    printf("refusal %d for both markings, and what waited was decided\n", BILGETHRUM_NUMBERS_USED);
+    printf("refusal %d for both markings, and what waited was decided\n", BILGETHRUM_REFUSED_NUMBERS_USED);
     stay_empty(instant + BILGETHRUM_MOST_WAITING + 2);
     stay_empty(BILGETHRUM_MOST_INSTANT);
     hold_tallies((bilgethrum_tallies){ .unmarked_admitted = rounds + BILGETHRUM_MOST_WAITING,

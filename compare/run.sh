@@ -16,7 +16,10 @@ find_archive "$named"
 second='peer/second.c peer/second_line.c peer/second_blocks.c peer/second_columns.c'
 compare=
 for part in compare/*.c; do
-    [ "$part" = compare/all_numbers.c ] || compare="$compare $part"
+    case $part in
+    compare/all_numbers.c | compare/stack.c) ;;
+    *) compare="$compare $part" ;;
+    esac
 done
 # The stand-in's whole run is the baseline's, which is compared anyway.
 with_archive=
@@ -28,6 +31,7 @@ with_archive=
     build testbench bench/testbench.c "$archive"
     build host bench/host.c "$archive"
     build all_numbers compare/all_numbers.c "$archive"
+    build stack compare/stack.c "$archive"
     build compare $with_archive $compare tools/trace_text.c $second peer/baseline.c "$archive"
 }
 
@@ -106,6 +110,11 @@ status=0
 bench --expect traces/printed.text target/compare/printed.image >&- 2>"$said" || status=$?
 unwritten $status 'the judging test bench with its output closed'
 printf 'the host and the test bench tell what they cannot write\n'
+
+# What the header says of the stack is said of the archive, and of no sanitizer.
+if [ "$named" != none ] && [ "${SANITIZE:-}" != 1 ]; then
+    emulated target/compare/stack || failed 'a call takes more stack than the header says'
+fi
 
 # A difference is saved beside the programs.
 cd target/compare

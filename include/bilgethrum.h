@@ -1,8 +1,8 @@
 /* Declares every call that the proved archive offers to C hosts.
  *
  * Link libbilgethrum.a, which `rt staticlib bilgethrum` writes.  The archive holds
- * x86-64 code for Linux's calling convention; it calls nothing, not even the C
- * library, and has no heap and no variable of its own: all state is lent by the host.
+ * x86-64 code for Linux's calling convention.  It calls nothing but memset, and has no
+ * heap and no variable of its own: all state is lent by the host.
  *
  * Every call takes every number.  It does its job or refuses with one of the numbers
  * below, and a refused call changes no byte of anything lent; only a refused opening
@@ -19,7 +19,8 @@
  * words.  Calls that share no writable memory may run on different threads; two calls
  * on one line may not run at the same time.
  *
- * Stack.  No call needs more than BILGETHRUM_STACK_BYTES below its caller. */
+ * Stack.  No call but bilgethrum_run takes more than BILGETHRUM_STACK_BYTES below its
+ * caller, and that one no more than BILGETHRUM_RUN_STACK_BYTES. */
 #ifndef BILGETHRUM_H
 #define BILGETHRUM_H
 
@@ -35,7 +36,8 @@ extern "C" {
 #define BILGETHRUM_VERSION_MAJOR 1
 #define BILGETHRUM_VERSION_MINOR 0
 
-#define BILGETHRUM_STACK_BYTES 8192
+#define BILGETHRUM_STACK_BYTES 1024
+#define BILGETHRUM_RUN_STACK_BYTES 6144
 
 /* ---- Limits ---- */
 
@@ -49,31 +51,31 @@ extern "C" {
 
 enum bilgethrum_refusal {
     BILGETHRUM_NOT_REFUSED = 0,
-    BILGETHRUM_LENGTH = 1,           /* arrive, view: length not 1 to 2,048 */
-    BILGETHRUM_INSTANT = 2,          /* arrive, advance: instant above 10^15 */
-    BILGETHRUM_BEFORE_CLOCK = 3,     /* arrive, advance: instant before that of the last accepted call */
-    BILGETHRUM_TOO_LONG = 4,         /* arrive, marked: transmission time above alpha */
-    BILGETHRUM_OVERDUE = 5,          /* arrive: a decision is due strictly before the instant: advance first */
-    BILGETHRUM_ROOM_FULL = 6,        /* arrive: 64 packets of that marking wait */
-    BILGETHRUM_NUMBERS_USED = 7,     /* arrive: 4,294,967,295 packets were admitted since opening */
-    BILGETHRUM_ALPHA = 8,            /* open, write: alpha not 1 to 1,000,000 */
-    BILGETHRUM_TICKS_PER_BYTE = 9,   /* open, write: ticks per byte not 1 to 64 */
-    BILGETHRUM_IMAGE_LENGTH = 11,    /* read: not a positive multiple of 512, or above 64 blocks */
-    BILGETHRUM_CHECK = 12,           /* read, in the block whose index is given: the check is another */
-    BILGETHRUM_EDITION = 13,         /* its edition is not 1 */
-    BILGETHRUM_COUNT = 14,           /* its record count is not 31, or in the last block not 1 to 31 */
-    BILGETHRUM_BLOCK_NUMBER = 15,    /* its block number is not its place in the image */
-    BILGETHRUM_SETTINGS = 16,        /* its settings are out of range or unlike block 0's, or bytes 14-15 not 0 */
-    BILGETHRUM_KIND = 17,            /* a record's kind is not 1, 2 or 3 */
-    BILGETHRUM_FIELD = 18,           /* another field of a record is out of range */
-    BILGETHRUM_UNUSED_BYTES = 19,    /* its unused bytes are not zero */
-    BILGETHRUM_COLUMN_SHORT = 20,    /* read: a lent column is shorter than the number of events */
-    BILGETHRUM_COLUMNS_UNEQUAL = 21, /* write: the columns differ in length */
-    BILGETHRUM_EVENT_COUNT = 22,     /* write: no event, or more than 1,984 */
-    BILGETHRUM_EVENT = 23,           /* write: an event that the reader would refuse with 17 or 18 */
-    BILGETHRUM_IMAGE_SHORT = 24,     /* write: the lent image is too short */
-    BILGETHRUM_OUTSIDE = 31,         /* view: the payload reaches beyond its area */
-    BILGETHRUM_ANSWER_SHORT = 32     /* run: the answer area is shorter than the text; run gives -32 */
+    BILGETHRUM_REFUSED_LENGTH = 1,           /* arrive, view: length not 1 to 2,048 */
+    BILGETHRUM_REFUSED_INSTANT = 2,          /* arrive, advance: instant above 10^15 */
+    BILGETHRUM_REFUSED_BEFORE_CLOCK = 3,     /* arrive, advance: instant before that of the last accepted call */
+    BILGETHRUM_REFUSED_TOO_LONG = 4,         /* arrive, marked: transmission time above alpha */
+    BILGETHRUM_REFUSED_OVERDUE = 5,          /* arrive: a decision is due strictly before the instant: advance first */
+    BILGETHRUM_REFUSED_ROOM_FULL = 6,        /* arrive: 64 packets of that marking wait */
+    BILGETHRUM_REFUSED_NUMBERS_USED = 7,     /* arrive: 4,294,967,295 packets were admitted since opening */
+    BILGETHRUM_REFUSED_ALPHA = 8,            /* open, write: alpha not 1 to 1,000,000 */
+    BILGETHRUM_REFUSED_TICKS_PER_BYTE = 9,   /* open, write: ticks per byte not 1 to 64 */
+    BILGETHRUM_REFUSED_IMAGE_LENGTH = 11,    /* read: not a positive multiple of 512, or above 64 blocks */
+    BILGETHRUM_REFUSED_CHECK = 12,           /* read, in the block whose index is given: the check is another */
+    BILGETHRUM_REFUSED_EDITION = 13,         /* its edition is not 1 */
+    BILGETHRUM_REFUSED_COUNT = 14,           /* its record count is not 31, or in the last block not 1 to 31 */
+    BILGETHRUM_REFUSED_BLOCK_NUMBER = 15,    /* its block number is not its place in the image */
+    BILGETHRUM_REFUSED_SETTINGS = 16,        /* its settings are out of range or unlike block 0's, or bytes 14-15 not 0 */
+    BILGETHRUM_REFUSED_KIND = 17,            /* a record's kind is not 1, 2 or 3 */
+    BILGETHRUM_REFUSED_FIELD = 18,           /* another field of a record is out of range */
+    BILGETHRUM_REFUSED_UNUSED_BYTES = 19,    /* its unused bytes are not zero */
+    BILGETHRUM_REFUSED_COLUMN_SHORT = 20,    /* read: a lent column is shorter than the number of events */
+    BILGETHRUM_REFUSED_COLUMNS_UNEQUAL = 21, /* write: the columns differ in length */
+    BILGETHRUM_REFUSED_EVENT_COUNT = 22,     /* write: no event, or more than 1,984 */
+    BILGETHRUM_REFUSED_EVENT = 23,           /* write: an event that the reader would refuse with 17 or 18 */
+    BILGETHRUM_REFUSED_IMAGE_SHORT = 24,     /* write: the lent image is too short */
+    BILGETHRUM_REFUSED_OUTSIDE = 31,         /* view: the payload reaches beyond its area */
+    BILGETHRUM_REFUSED_ANSWER_SHORT = 32     /* run: the answer area is shorter than the text; run gives -32 */
 };
 
 /* ---- The line: scheduler and waiting room ---- */
@@ -113,7 +115,7 @@ typedef struct bilgethrum_arrival {
 } bilgethrum_arrival;
 
 /* A packet arrives and waits, or is refused.  A host that is late with its advances
- * meets BILGETHRUM_OVERDUE: every decision that is due before the packet's arrival has
+ * meets BILGETHRUM_REFUSED_OVERDUE: every decision that is due before the packet's arrival has
  * to be taken first.  Then the packet may be handed over again. */
 bilgethrum_arrival bilgethrum_arrive(bilgethrum_line *line, bilgethrum_packet packet);
 
@@ -208,7 +210,7 @@ uint32_t bilgethrum_view_refusal(const uint8_t *unmarked, size_t unmarked_len,
     (BILGETHRUM_MOST_EVENTS * BILGETHRUM_LONGEST_LINE + BILGETHRUM_TALLY_LINE)
 
 /* What comes back where the answer area is shorter than the text. */
-#define BILGETHRUM_AREA_TOO_SHORT (-BILGETHRUM_ANSWER_SHORT)
+#define BILGETHRUM_AREA_TOO_SHORT (-BILGETHRUM_REFUSED_ANSWER_SHORT)
 
 /* Runs the trace in image[0 .. image_len) on a fresh scheduler and writes its text
  * at the start of answer[0 .. answer_len).

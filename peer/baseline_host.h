@@ -37,9 +37,9 @@ static inline const struct baseline_host *baseline_host_within(const bilgethrum_
 static inline uint32_t baseline_settings_refusal(bilgethrum_settings settings)
 {
     if (settings.alpha - 1 >= BILGETHRUM_MOST_ALPHA)
-        return BILGETHRUM_ALPHA;
+        return BILGETHRUM_REFUSED_ALPHA;
     if (settings.ticks_per_byte - 1 >= BILGETHRUM_MOST_TICKS_PER_BYTE)
-        return BILGETHRUM_TICKS_PER_BYTE;
+        return BILGETHRUM_REFUSED_TICKS_PER_BYTE;
     return BILGETHRUM_NOT_REFUSED;
 }
 
@@ -59,9 +59,9 @@ static inline bilgethrum_arrival baseline_host_arrive(bilgethrum_line *words,
     struct baseline_host *host = baseline_host_in(words);
     struct baseline_line *line = &host->line;
     if (packet.length - 1 >= BILGETHRUM_MOST_LENGTH)
-        return (bilgethrum_arrival){ .refusal = BILGETHRUM_LENGTH };
+        return (bilgethrum_arrival){ .refusal = BILGETHRUM_REFUSED_LENGTH };
     if (packet.arrival > BILGETHRUM_MOST_INSTANT)
-        return (bilgethrum_arrival){ .refusal = BILGETHRUM_INSTANT };
+        return (bilgethrum_arrival){ .refusal = BILGETHRUM_REFUSED_INSTANT };
     uint32_t extra = 0;
     int refusal = packet.marked != 0
         ? baseline_marked(line, packet.length, packet.arrival)
@@ -92,7 +92,7 @@ static inline bilgethrum_decision baseline_host_advance(bilgethrum_line *words, 
     bool decided;
     struct baseline_start start;
     if (at > BILGETHRUM_MOST_INSTANT)
-        return (bilgethrum_decision){ .refusal = BILGETHRUM_INSTANT };
+        return (bilgethrum_decision){ .refusal = BILGETHRUM_REFUSED_INSTANT };
     int refusal = baseline_advance(&host->line, at, &decided, &start);
     if (refusal != 0 || !decided)
         return (bilgethrum_decision){ .refusal = (uint32_t)refusal };
