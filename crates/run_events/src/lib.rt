@@ -1,13 +1,13 @@
 // Events played on the scheduler, and the text of a trace told to a lent area; for the crate `run`. The waiting room is in its frame.
 ghost use mathlib.Core.Path.{_≡_};
+ghost use Prim.Native.Nat.{_*_, _/_, _≤_};
+ghost use lib.ListN.{length};
 ghost use Rattle.rules.specs.Step.{advance};
 ghost use Rattle.scheduler.specs.Machine.{FromOpening};
 ghost use Rattle.scheduler.specs.Steps.{arrivalOf};
+ghost use Rattle.text_lines.specs.Told as told;
 ghost use Rattle.run_events.specs.Calls.{callOf, comingCall};
 ghost use Rattle.run_events.specs.Plays.{Plays};
-ghost use Prim.Native.Nat.{_*_, _/_, _≤_};
-ghost use lib.ListN.{length};
-ghost use Rattle.text_lines.specs.Told as told;
 ghost use Rattle.run_events.specs.Trace.{traceText};
 ghost use Rattle.run_events.specs.Tells.{Tells};
 use block_image::event_at;

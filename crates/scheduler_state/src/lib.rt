@@ -1,9 +1,9 @@
 // The scheduler's own numbers: the counts that follow from its tallies, and the extra delays. The functions serve the crates above only.
 ghost use mathlib.Core.Path.{_≡_};
-ghost use Rattle.scheduler_state.specs.Counts.{admissionsOf, goneOf, waitingOf, waitsOf, Counted};
-ghost use Rattle.scheduler_state.specs.Parts.{freshOf, idleAt};
 ghost use Prim.Native.Nat.{_+_, _-_, _≤_, min};
 ghost use Rattle.units.specs.Limits.{alphaMost, instantMost};
+ghost use Rattle.scheduler_state.specs.Counts.{admissionsOf, goneOf, waitingOf, waitsOf, Counted};
+ghost use Rattle.scheduler_state.specs.Parts.{freshOf, idleAt};
 ghost use Rattle.scheduler_state.specs.Bounds.{timesMost};
 ghost use Rattle.scheduler_state.specs.Delays.{followsOf, ownOf, fitsOf};
 use units::Instant;

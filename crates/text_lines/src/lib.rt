@@ -2,13 +2,10 @@
 ghost use mathlib.Core.Path.{_≡_};
 ghost use mathlib.Core.List.{[], _∷_};
 ghost use Prim.Native.Nat.{_+_, _^_, _≤_, _<_};
-ghost use lib.ListN.{length};
-ghost use Rattle.text.specs.Text.{decimal};
+ghost use lib.ListN.{length, take};
+ghost use Rattle.text.specs.Text.{decimal, fieldText, fieldsText, lineText};
 ghost use Rattle.text_lines.specs.Groups.{two, four, eight};
 ghost use Rattle.text_lines.specs.Put.{Put};
-ghost use lib.ListN.{length, take};
-ghost use Rattle.text_lines.specs.Put.{Put};
-ghost use Rattle.text.specs.Text.{fieldText, fieldsText, lineText};
 ghost use Rattle.text_lines.specs.Told.{Told};
 
 pub fn put_byte(out: &mut [u8], at: usize, b: u8) -> usize
