@@ -1,8 +1,9 @@
 /* Declares every call that the proved archive offers to C hosts.
  *
  * Link libbilgethrum.a, which `rt staticlib bilgethrum` writes.  The archive holds
- * x86-64 code for Linux's calling convention; it calls nothing, not even the C
- * library, and has no heap and no variable of its own: all state is lent by the host.
+ * x86-64 code for Linux's calling convention.  It calls memset of the host's C library
+ * and nothing else, and has no heap and no variable of its own: all state is lent by
+ * the host.
  *
  * Every call takes every number.  It does its job or refuses with one of the numbers
  * below, and a refused call changes no byte of anything lent; only a refused opening
@@ -158,7 +159,7 @@ enum bilgethrum_kind {
 typedef struct bilgethrum_reading {
     uint32_t refusal; /* 0, or 11 to 20 */
     uint32_t block;   /* the index of the refused block; 0 for 11 and 20 */
-    size_t events;  /* how many were read; 0 where refused */
+    size_t events;    /* how many were read; 0 where refused */
     bilgethrum_settings settings; /* the image's; both 0 where refused */
 } bilgethrum_reading;
 
