@@ -26,7 +26,7 @@ add-calls : tie.Need-add-calls Inv-loop μ-loop
 add-calls c = search needs
 
 loop-holds : tie.Need-loop-holds Inv-loop μ-loop
-loop-holds c = (c .before .«open» .ensures .kept _ (c .before .before .empty .ensures), search needs)
+loop-holds c = (c .before .«open» .ensures .kept _ (c .before .before .empty .ensures .sized), search needs)
 
 row-of-requires : tie.Need-row-of-requires Inv-loop μ-loop
 row-of-requires c κs = search needs

@@ -18,7 +18,7 @@ open-requires c κs = search needs
 tell-events-requires : tie.Need-tell-events-requires
 tell-events-requires c κs =
     let o = c .before .before .before in
-    (o .«open» .ensures .kept _ (o .before .empty .ensures), o .before .before .before .before .pre)
+    (o .«open» .ensures .kept _ (o .before .empty .ensures .sized), o .before .before .before .before .pre)
 
 tallies-requires : tie.Need-tallies-requires
 tallies-requires c κs = search needs
@@ -36,7 +36,7 @@ tell-line-requires c κs =
     let w = told .tell-events .ensures in
     let o = opened .«open» in
     let t = c .before .before .before .tallies2 .ensures in
-    let within = events-within (now (a .image)) (a .settings) (a .events) (lent .result) (lent .ensures) (o .result) (o .ensures) in
+    let within = events-within (now (a .image)) (a .settings) (a .events) (lent .result) (lent .ensures .sized) (o .result) (o .ensures) in
     let most = trace-most (now (a .image)) (a .settings) (a .events) in
     (omega (arith, t .few, t .five), t .few, omega (arith, w .told .place, start .pre .1))
 
@@ -52,7 +52,7 @@ returns c =
     let w = told .tell-events in
     let o = opened .«open» in
     let t = c .before .before .before .before .before .before .tallies2 in
-    rw (trace-text (now (a .image)) (a .settings) (a .events) (lent .result) (lent .ensures) (o .result) (o .ensures) (w .result .scheduler) (t .result) (w .ensures .scheduler) (t .ensures))
+    rw (trace-text (now (a .image)) (a .settings) (a .events) (lent .result) (lent .ensures .sized) (o .result) (o .ensures) (w .result .scheduler) (t .result) (w .ensures .scheduler) (t .ensures))
     (told-then {xs = eventsText (now (a .image)) (o .result .scheduler) (lent .result) (a .events)} (w .ensures .told) (w .kept .1 .1 .1 .0) (c .before .before .tell-line .ensures))
 
 pub tell-trace-spec : {M : Type 1} → statement M
