@@ -17,6 +17,7 @@ use Rattle.scheduler.specs.Machine.{made, schedulerAfter, roomAfter, valuesBy, 
 use Rattle.text.specs.Text.{valuesText}
 use Rattle.text_lines.specs.Row.{rowText}
 use Rattle.text_lines.specs.Told.{Told}
+use Rattle.text_lines.proofs.Tells.{told-then}
 use Rattle.run_events.specs.declared.Played.{Played}
 use Rattle.run_events.specs.Calls.{callOf}
 use Rattle.run_events.specs.Trace.{callsOf}
@@ -88,3 +89,22 @@ text-none image s r = refl
 
 pub told-none : (image : List ℕ) (s : Scheduler) (r : Room) (l : List ℕ) → Told l 0 (eventsText image s r 0) l 0
 told-none image s r l = rw (text-none image s r) (record { place = refl; stored = λ h. refl })
+
+-- The first k events were played from the scheduler s and the room r, and their lines told to an area that held l.
+pub record SoFar (image : List ℕ) (s : Scheduler) (r : Room) (l : List ℕ) (k : ℕ) (then : Scheduler) (room : Room) (answer : List ℕ) (next : ℕ) : Type 0 where
+  pub reached : Reached image s r k then room
+  pub told : Told l 0 (eventsText image s r k) answer next
+  pub kept : length answer ≡ length l
+
+pub so-far-none : (image : List ℕ) (s : Scheduler) (r : Room) (l : List ℕ) → FromOpening s r → SoFar image s r l 0 s r l 0
+so-far-none image s r l h = record { reached = reached-none image s r h; told = told-none image s r l; kept = refl }
+
+pub so-far-more : (image : List ℕ) (s : Scheduler) (r : Room) (l : List ℕ) (k : ℕ) (then : Scheduler) (room left : Room) (answer after : List ℕ)
+    (next next′ : ℕ) (e : Event) (x : Played) → SoFar image s r l k then room answer next → e ≡ eventAt image k → Plays then room (callOf e) x left
+    → Told answer next (rowText (x .row)) after next′ → length after ≡ length answer → SoFar image s r l (k + 1) (x .scheduler) left after next′
+so-far-more image s r l k then room left answer after next next′ e x h is plays told same =
+    record {
+      reached = reached-more image s r k then room left e x (h .reached) is plays;
+      told = rw (text-more image s r k then room left e x (h .reached) is plays) (told-then (h .told) (h .kept) told);
+      kept = omega (arith, h .kept);
+    }

@@ -1,6 +1,6 @@
 // Events played on the scheduler, and the text of a trace told to a lent area; for the crate `run`. The waiting room is in its frame.
 ghost use mathlib.Core.Path.{_≡_};
-ghost use Prim.Native.Nat.{_*_, _/_, _≤_};
+ghost use Prim.Native.Nat.{_*_, _/_, _≤_, _<_};
 ghost use lib.ListN.{length};
 ghost use Rattle.rules.specs.Step.{advance};
 ghost use Rattle.scheduler.specs.Machine.{FromOpening};
@@ -23,6 +23,9 @@ use text_lines::tell_line;
 use units::Instant;
 use units::Marking;
 use units::Settings;
+
+// How many events a block has, unless it is the last.
+const BLOCK_EVENTS: usize = 31;
 
 // A line of the text, and the scheduler from there on.
 pub struct Played {
@@ -100,7 +103,20 @@ pub struct Told {
     pub scheduler: Scheduler,
 }
 
-// Tells the lines of the first events to the area, from its start.
+// Where the block of event k ends, if k is the first there.
+fn block_end(k: usize, events: usize) -> usize
+    requires { ⌜ k < events ⌝ }
+    ensures { λ r. ⌜ (k < r) × (r ≤ events) ⌝ }
+{
+    if events - k < BLOCK_EVENTS {
+        events
+    } else {
+        k + BLOCK_EVENTS
+    }
+}
+
+// Tells the lines of the first events to the area, from its start, block by block: what stands in an inner loop the compiler takes for hot, and
+// makes one body of it, though the calls for C hosts use the scheduler too.
 fn tell_events(
     image: &[u8],
     events: usize,
@@ -116,13 +132,16 @@ fn tell_events(
     let mut next = 0;
     let mut k = 0;
     while k < events {
-        let event = event_at(image, k);
-        let played = play(event, then, room);
-        let row = played.row;
-        then = played.scheduler;
-        let values = row.values;
-        next = tell_line(answer, next, row.letter, &values, row.count);
-        k += 1;
+        let end = block_end(k, events);
+        while k < end {
+            let event = event_at(image, k);
+            let played = play(event, then, room);
+            let row = played.row;
+            then = played.scheduler;
+            let values = row.values;
+            next = tell_line(answer, next, row.letter, &values, row.count);
+            k += 1;
+        }
     }
     Told {
         next,

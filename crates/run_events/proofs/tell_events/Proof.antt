@@ -1,98 +1,118 @@
--- `run_events::tell_events` meets its contract. The loop's invariant: the first k events are played, and their lines are told. Assumes nothing.
-use mathlib.Core.Path.{_≡_, refl}
-use Prim.Native.Nat.{_≤_, _-_}
+-- `run_events::tell_events` meets its contract. The outer loop's invariant: the first k events are played, and their lines are told; the inner loop's: from wherever that was so, it still is. Assumes nothing.
+use mathlib.Core.Path.{_≡_}
+use mathlib.Core.List.{List}
+use Prim.Native.Nat.{ℕ, _≤_, _-_}
 use native.Mathlib.Omega.{arith}
 use denote.Ref.{now}
-use lib.ListN.{length}
-use Rattle.text_lines.specs.Told.{Told}
-use Rattle.text_lines.proofs.Tells.{told-then}
-use Rattle.run_events.specs.Tells.{eventsText, Reached}
-use Rattle.run_events.proofs.Tells.{reached-none, told-none, reached-more, text-more}
+use Rattle.room.specs.Room.{Room}
+use Rattle.scheduler_state.specs.declared.Scheduler.{Scheduler}
+use Rattle.run_events.proofs.Tells.{SoFar, so-far-none, so-far-more}
 use Rattle.run_events.proofs.Most.{events-most}
 use borrow.Author.Needs.{needs}
 use Rattle.run_events.proofs.tell_events.Statement.{statement}
 use Rattle.run_events.proofs.tell_events.Tie as tie
 
+abbrev Inv-loop2 : tie.InvT-loop2
+Inv-loop2 image events answer₀ room₀ then₀ next₀ k₀ end answer room then next k =
+    (k ≤ end)
+    × (end ≤ events)
+    × ((s : Scheduler) (r : Room) (l : List ℕ) → SoFar image s r l k₀ then₀ room₀ answer₀ next₀ → SoFar image s r l k then room answer next)
+
+abbrev μ-loop2 : tie.MeasureT-loop2
+μ-loop2 image events answer₀ room₀ then₀ next₀ k₀ end answer room then next k = end - k
+
 abbrev Inv-loop : tie.InvT-loop
-Inv-loop image events answer₀ room₀ then₀ next₀ k₀ answer room then next k =
-    (k ≤ events)
-    × Reached image then₀ room₀ k then room
-    × Told answer₀ 0 (eventsText image then₀ room₀ k) answer next
-    × (length answer ≡ length answer₀)
+Inv-loop image events answer₀ room₀ then₀ next₀ k₀ answer room then next k = (k ≤ events) × SoFar image then₀ room₀ answer₀ k then room answer next
 
 abbrev μ-loop : tie.MeasureT-loop
 μ-loop image events answer₀ room₀ then₀ next₀ k₀ answer room then next k = events - k
 
-loop-holds : tie.Need-loop-holds Inv-loop μ-loop
-loop-holds c = (omega arith, reached-none _ _ _ (c .before .before .pre .0), told-none _ _ _ _, refl)
+loop-holds : tie.Need-loop-holds Inv-loop2 μ-loop2 Inv-loop μ-loop
+loop-holds c = (omega arith, so-far-none _ _ _ _ (c .before .before .pre .0))
 
-event-at-requires : tie.Need-event-at-requires Inv-loop μ-loop
+block-end-requires : tie.Need-block-end-requires Inv-loop2 μ-loop2 Inv-loop μ-loop
+block-end-requires c κs = search needs
+
+loop2-holds : tie.Need-loop2-holds Inv-loop2 μ-loop2 Inv-loop μ-loop
+loop2-holds c = (omega arith, c .block-end .ensures .1, λ s r l h. h)
+
+loop-less : tie.Need-loop-less Inv-loop2 μ-loop2 Inv-loop μ-loop
+loop-less c = omega (arith, c .before .loop2 .inv .0, c .before .before .block-end .ensures)
+
+loop-again : tie.Need-loop-again Inv-loop2 μ-loop2 Inv-loop μ-loop
+loop-again c =
+    let x = c .before .loop2 .inv in
+    (omega (arith, x .0, x .1), x .2 _ _ _ (c .before .before .before .before .loop .inv .1))
+
+event-at-requires : tie.Need-event-at-requires Inv-loop2 μ-loop2 Inv-loop μ-loop
 event-at-requires c κs =
-    let p = c .before .before .before .before .pre .1 .0 in
-    omega arith
+    let p = c .before .before .before .before .before .before .before .pre .1 .0 in
+    omega (arith, c .before .loop2 .inv .1)
 
-play-requires : tie.Need-play-requires Inv-loop μ-loop
-play-requires c κs = c .before .before .before .loop .inv .1 .kept
+play-requires : tie.Need-play-requires Inv-loop2 μ-loop2 Inv-loop μ-loop
+play-requires c κs = c .before .before .before .loop2 .inv .2 _ _ _ (c .before .before .before .before .before .before .loop .inv .1) .reached .kept
 
-slice-aggregate-tell-line : tie.Need-slice-aggregate-tell-line Inv-loop μ-loop
+slice-aggregate-tell-line : tie.Need-slice-aggregate-tell-line Inv-loop2 μ-loop2 Inv-loop μ-loop
 slice-aggregate-tell-line c = search (needs, c .before .before .before .before .before .play .ensures .line .five)
 
-tell-line-requires : tie.Need-tell-line-requires Inv-loop μ-loop
+tell-line-requires : tie.Need-tell-line-requires Inv-loop2 μ-loop2 Inv-loop μ-loop
 tell-line-requires c κs =
-    let tested = c .before .before .before .before .before .before .before .before in
-    let start = tested .before .before .before .before in
-    let l = tested .before .loop in
+    let start = c .before .before .before .before .before .before .before .before .before .before .before .before .before .before .before in
+    let l = c .before .before .before .before .before .before .before .before .before .loop2 in
+    let so = l .inv .2 _ _ _ (c .before .before .before .before .before .before .before .before .before .before .before .before .loop .inv .1) in
     let few = c .before .before .before .before .before .play .ensures .line .few in
-    let most = events-most (now (start .args .image)) (start .args .scheduler) (now (start .args .room)) (l .k) in
     let five = c .before .before .before .before .before .play .ensures .line .five in
-    (omega arith, omega arith, omega (arith, l .inv .2 .place, tested .loop-test .taken, start .pre .1 .1))
+    let most = events-most (now (start .args .image)) (start .args .scheduler) (now (start .args .room)) (l .k) in
+    (omega arith, omega arith, omega (arith, so .told .place, c .before .before .before .before .before .before .before .before .loop2-test .taken, l .inv .1, start .pre .1 .1))
 
-add-k : tie.Need-add-k Inv-loop μ-loop
-add-k c =
-    let tested = c .before .before .before .before .before .before .before .before .before .before .before in
-    omega (arith, tested .loop-test .taken, tested .before .before .before .before .fits .events)
+add-k : tie.Need-add-k Inv-loop2 μ-loop2 Inv-loop μ-loop
+add-k c = omega (arith, c .before .before .before .before .before .before .before .before .before .before .before .loop2-test .taken, c .before .before .before .before .before .before .before .before .before .before .before .before .loop2 .inv .1, c .before .before .before .before .before .before .before .before .before .before .before .before .before .before .before .before .before .before .fits .events)
 
-loop-less : tie.Need-loop-less Inv-loop μ-loop
-loop-less c = search needs
+loop2-less : tie.Need-loop2-less Inv-loop2 μ-loop2 Inv-loop μ-loop
+loop2-less c = omega (arith, c .before .before .before .before .before .before .before .before .before .before .before .loop2-test .taken)
 
-loop-again : tie.Need-loop-again Inv-loop μ-loop
-loop-again c =
+loop2-again : tie.Need-loop2-again Inv-loop2 μ-loop2 Inv-loop μ-loop
+loop2-again c =
     let p = c .before .before .before .before .before .before .before .before .play in
     let e = c .before .before .before .before .before .before .before .before .before .before .event-at in
-    let tested = c .before .before .before .before .before .before .before .before .before .before .before in
-    let l = tested .before .loop in
-    let a = tested .before .before .before .before .args in
-    let left = p .last .1 .1 .0 in
+    let l = c .before .before .before .before .before .before .before .before .before .before .before .before .loop2 in
+    let a = c .before .before .before .before .before .before .before .before .before .before .before .before .before .before .before .before .before .before .args in
     let w = c .before .before .tell-line in (
-      omega (arith, tested .loop-test .taken),
-      reached-more (now (a .image)) (a .scheduler) (now (a .room)) (l .k) (l .then) (l .room) left (e .result) (p .result) (l .inv .1) (e .ensures) (p .ensures),
-      rw (text-more (now (a .image)) (a .scheduler) (now (a .room)) (l .k) (l .then) (l .room) left (e .result) (p .result) (l .inv .1) (e .ensures) (p .ensures))
-          (told-then (l .inv .2) (l .inv .3) (w .ensures)),
-      omega (arith, w .kept .0),
+      omega (arith, c .before .before .before .before .before .before .before .before .before .before .before .loop2-test .taken),
+      l .inv .1,
+      λ s r before h.
+          so-far-more (now (a .image)) s r before (l .k) (l .then) (l .room) (p .last .1 .1 .0) _ _ _ _ (e .result) (p .result) (l .inv .2 s r before h) (e .ensures)
+          (p .ensures) (w .ensures) (w .kept .0),
     )
 
-same-length : tie.Need-same-length Inv-loop μ-loop
+same-length : tie.Need-same-length Inv-loop2 μ-loop2 Inv-loop μ-loop
 same-length c = search needs
 
-returns : tie.Need-returns Inv-loop μ-loop
+returns : tie.Need-returns Inv-loop2 μ-loop2 Inv-loop μ-loop
 returns c =
     let i = c .before .loop .inv in
     let all : c .before .loop .k ≡ c .before .before .before .before .args .events = omega arith in
-    rw (← all) (record { told = i .2; scheduler = i .1 .scheduler })
+    rw (← all) (record { told = i .1 .told; scheduler = i .1 .reached .scheduler })
 
 pub tell-events-spec : {M : Type 1} → statement M
 tell-events-spec =
     tie.close
     (tie.spec
+    Inv-loop2
+    μ-loop2
     Inv-loop
     μ-loop
     loop-holds
+    block-end-requires
+    loop2-holds
+    loop-less
+    loop-again
     event-at-requires
     play-requires
     slice-aggregate-tell-line
     tell-line-requires
     add-k
-    loop-less
-    loop-again
+    loop2-less
+    loop2-again
     same-length
     returns)
