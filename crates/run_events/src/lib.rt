@@ -1,6 +1,6 @@
 // Events played on the scheduler, and the text of a trace told to a lent area; for the crate `run`. The waiting room is in its frame.
 ghost use mathlib.Core.Path.{_≡_};
-ghost use Prim.Native.Nat.{_*_, _/_, _≤_, _<_};
+ghost use Prim.Native.Nat.{_+_, _*_, _/_, _≤_, _<_, min};
 ghost use lib.ListN.{length};
 ghost use Rattle.rules.specs.Step.{advance};
 ghost use Rattle.scheduler.specs.Machine.{FromOpening};
@@ -10,7 +10,7 @@ ghost use Rattle.run_events.specs.Calls.{callOf, comingCall};
 ghost use Rattle.run_events.specs.Plays.{Plays};
 ghost use Rattle.run_events.specs.Trace.{traceText};
 ghost use Rattle.run_events.specs.Tells.{Tells};
-use block_image::event_at;
+use block_image::event_in;
 use block_record::Event;
 use room::Packet;
 use room::Room;
@@ -106,7 +106,7 @@ pub struct Told {
 // Where the block of event k ends, if k is the first there.
 fn block_end(k: usize, events: usize) -> usize
     requires { ⌜ k < events ⌝ }
-    ensures { λ r. ⌜ (k < r) × (r ≤ events) ⌝ }
+    ensures { λ r. ⌜ (k < r) × (r ≡ min (k + 31) events) ⌝ }
 {
     if events - k < BLOCK_EVENTS {
         events
@@ -131,10 +131,12 @@ fn tell_events(
     let mut then = scheduler;
     let mut next = 0;
     let mut k = 0;
+    let mut block = 0;
     while k < events {
+        let first = k;
         let end = block_end(k, events);
         while k < end {
-            let event = event_at(image, k);
+            let event = event_in(image, block, k - first);
             let played = play(event, then, room);
             let row = played.row;
             then = played.scheduler;
@@ -142,6 +144,7 @@ fn tell_events(
             next = tell_line(answer, next, row.letter, &values, row.count);
             k += 1;
         }
+        block += 1;
     }
     Told {
         next,
