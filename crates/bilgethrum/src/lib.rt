@@ -1,8 +1,7 @@
 // Every public call for C hosts, as include/bilgethrum.h declares it. A host's line is a room in which its scheduler is kept.
 ghost use mathlib.Core.Path.{_≡_};
 ghost use Prim.Native.Nat.{_*_, min};
-ghost use Rattle.refusals.specs.First.{firstOf, numberOf};
-ghost use Rattle.payload.specs.Part.{viewTests};
+ghost use Rattle.payload.specs.Part.{viewRefusal};
 ghost use Rattle.payload.specs.View.{areaOf};
 ghost use Rattle.block_columns.specs.Columns.{columns};
 ghost use Rattle.run.specs.Text.{textOf};
@@ -352,7 +351,7 @@ pub extern "C" fn bilgethrum_view_refusal<'a>(
     marked: &'a [u8],
     packet: HostPacket,
 ) -> u32
-    ensures { λ r. ⌜ r ≡ numberOf (firstOf (viewTests (areaOf (packetFrom packet .marking) (now (unmarked .entry)) (now (marked .entry))) (packet .length) (packet .place))) ⌝ }
+    ensures { λ r. ⌜ r ≡ viewRefusal (areaOf (packetFrom packet .marking) (now (unmarked .entry)) (now (marked .entry))) (packet .length) (packet .place) ⌝ }
 {
     let marking = room::marking_of(packet.marked);
     payload::view_refusal(
