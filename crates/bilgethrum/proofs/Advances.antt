@@ -19,8 +19,8 @@ use Rattle.scheduler.specs.Promises.{Advances}
 use Rattle.scheduler.proofs.Stepped.{advance-steps}
 use Rattle.scheduler_guarantees.proofs.Unchanged.{refused-unchanged}
 use Rattle.scheduler_kept.specs.Words.{schedulerIn}
-use Rattle.bilgethrum.specs.declared.HostDecision.{HostDecision}
-use Rattle.bilgethrum.specs.Host.{hostDecision}
+use Rattle.bilgethrum_values.specs.declared.HostDecision.{HostDecision}
+use Rattle.bilgethrum_values.specs.Host.{hostDecision}
 use Rattle.bilgethrum.specs.Promises.{OnLine, keeping, advanced, advancedWords, HostAdvances}
 use Rattle.bilgethrum.proofs.Kept.{keep-alike, steps-on}
 

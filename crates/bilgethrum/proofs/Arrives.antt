@@ -19,9 +19,9 @@ use Rattle.scheduler.specs.Promises.{Arrives}
 use Rattle.scheduler.proofs.Stepped.{arrival-steps}
 use Rattle.scheduler_guarantees.proofs.Unchanged.{refused-unchanged}
 use Rattle.scheduler_kept.specs.Words.{schedulerIn}
-use Rattle.bilgethrum.specs.declared.HostPacket.{HostPacket}
-use Rattle.bilgethrum.specs.declared.HostArrival.{HostArrival}
-use Rattle.bilgethrum.specs.Host.{packetFrom, hostArrival}
+use Rattle.bilgethrum_values.specs.declared.HostPacket.{HostPacket}
+use Rattle.bilgethrum_values.specs.declared.HostArrival.{HostArrival}
+use Rattle.bilgethrum_values.specs.Host.{packetFrom, hostArrival}
 use Rattle.bilgethrum.specs.Promises.{OnLine, keeping, arrived, arrivedWords, HostArrives}
 use Rattle.bilgethrum.proofs.Kept.{keep-alike, steps-on}
 

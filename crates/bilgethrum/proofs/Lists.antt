@@ -15,8 +15,8 @@ use Rattle.scheduler_answers.specs.Values.{admissionNumbers, advanceNumbers, ta
 use Rattle.scheduler.specs.Machine.{termsBy, lineBy}
 use Rattle.scheduler.specs.Steps.{stepBy}
 use Rattle.scheduler.proofs.Follows.{all-faithful}
-use Rattle.bilgethrum.specs.Host.{settingsFrom, hostArrival, hostDecision, tallied}
-use Rattle.bilgethrum.specs.Promises.{OnLine, arrived, advanced}
+use Rattle.bilgethrum_values.specs.Host.{settingsFrom, hostArrival, hostDecision}
+use Rattle.bilgethrum.specs.Promises.{OnLine, arrived, advanced, tallied}
 use Rattle.bilgethrum.specs.Lists.{
   HostCall,
   arrives,

@@ -9,8 +9,8 @@ use Rattle.scheduler.specs.Machine.{Alike}
 use Rattle.scheduler.specs.Promises.{Opens}
 use Rattle.scheduler.proofs.Public as public
 use Rattle.scheduler_kept.specs.Words.{schedulerIn}
-use Rattle.bilgethrum.specs.declared.HostSettings.{HostSettings}
-use Rattle.bilgethrum.specs.Host.{settingsFrom}
+use Rattle.bilgethrum_values.specs.declared.HostSettings.{HostSettings}
+use Rattle.bilgethrum_values.specs.Host.{settingsFrom}
 use Rattle.bilgethrum.specs.Promises.{keeping, opened, HostOpens}
 use Rattle.bilgethrum.proofs.Kept.{keep-alike}
 

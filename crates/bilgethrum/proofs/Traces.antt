@@ -8,10 +8,10 @@ use Rattle.block_columns.specs.Columns.{Columns}
 use Rattle.block_reader.specs.Read.{Reads}
 use Rattle.block_writer.specs.declared.Writing.{Writing}
 use Rattle.block_writer.specs.Write.{Writes}
-use Rattle.bilgethrum.specs.declared.HostSettings.{HostSettings}
-use Rattle.bilgethrum.specs.declared.HostReading.{HostReading}
-use Rattle.bilgethrum.specs.declared.HostWriting.{HostWriting}
-use Rattle.bilgethrum.specs.Host.{settingsFrom, hostReading, hostWriting}
+use Rattle.bilgethrum_values.specs.declared.HostSettings.{HostSettings}
+use Rattle.bilgethrum_values.specs.declared.HostReading.{HostReading}
+use Rattle.bilgethrum_values.specs.declared.HostWriting.{HostWriting}
+use Rattle.bilgethrum_values.specs.Host.{settingsFrom, hostReading, hostWriting}
 use Rattle.bilgethrum.specs.Promises.{HostReads, HostWrites}
 
 pub read-by : (image : List ℕ) (before : Columns) (y : Reading) (x : HostReading) (after : Columns) → Reads image before y after

@@ -1,4 +1,3 @@
-pub mod Host
 pub mod Promises
-pub mod Unique
 pub mod Lists
+pub mod Unique

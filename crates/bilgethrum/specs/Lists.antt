@@ -10,13 +10,13 @@ use Rattle.rules.specs.Open as rules
 use Rattle.room.specs.Room.{Room}
 use Rattle.room.specs.Held.{Sized}
 use Rattle.scheduler.specs.Steps.{arrivalOf}
-use Rattle.bilgethrum.specs.declared.HostSettings.{HostSettings}
-use Rattle.bilgethrum.specs.declared.HostPacket.{HostPacket}
-use Rattle.bilgethrum.specs.declared.HostArrival.{HostArrival}
-use Rattle.bilgethrum.specs.declared.HostDecision.{HostDecision}
-use Rattle.bilgethrum.specs.declared.HostTallies.{HostTallies}
-use Rattle.bilgethrum.specs.Host.{settingsFrom, packetFrom, hostArrival, hostDecision, tallied}
-use Rattle.bilgethrum.specs.Promises.{keeping, opened, arrived, arrivedWords, advanced, advancedWords}
+use Rattle.bilgethrum_values.specs.declared.HostSettings.{HostSettings}
+use Rattle.bilgethrum_values.specs.declared.HostPacket.{HostPacket}
+use Rattle.bilgethrum_values.specs.declared.HostArrival.{HostArrival}
+use Rattle.bilgethrum_values.specs.declared.HostDecision.{HostDecision}
+use Rattle.bilgethrum_values.specs.declared.HostTallies.{HostTallies}
+use Rattle.bilgethrum_values.specs.Host.{settingsFrom, packetFrom, hostArrival, hostDecision}
+use Rattle.bilgethrum.specs.Promises.{keeping, opened, arrived, arrivedWords, advanced, advancedWords, tallied}
 
 -- A call on a line, with any numbers in it.
 pub data HostCall : Type 0 where

@@ -26,13 +26,14 @@ use Rattle.block_reader.specs.Read.{readOf, Reads}
 use Rattle.block_writer.specs.declared.Writing.{Writing}
 use Rattle.block_writer.specs.Writable.{writeTests}
 use Rattle.block_writer.specs.Write.{answerOf, Writes}
-use Rattle.bilgethrum.specs.declared.HostSettings.{HostSettings}
-use Rattle.bilgethrum.specs.declared.HostPacket.{HostPacket}
-use Rattle.bilgethrum.specs.declared.HostArrival.{HostArrival}
-use Rattle.bilgethrum.specs.declared.HostDecision.{HostDecision}
-use Rattle.bilgethrum.specs.declared.HostReading.{HostReading}
-use Rattle.bilgethrum.specs.declared.HostWriting.{HostWriting}
-use Rattle.bilgethrum.specs.Host.{settingsFrom, packetFrom, hostArrival, hostDecision, hostReading, hostWriting}
+use Rattle.bilgethrum_values.specs.declared.HostSettings.{HostSettings}
+use Rattle.bilgethrum_values.specs.declared.HostPacket.{HostPacket}
+use Rattle.bilgethrum_values.specs.declared.HostArrival.{HostArrival}
+use Rattle.bilgethrum_values.specs.declared.HostDecision.{HostDecision}
+use Rattle.bilgethrum_values.specs.declared.HostTallies.{HostTallies}
+use Rattle.bilgethrum_values.specs.declared.HostReading.{HostReading}
+use Rattle.bilgethrum_values.specs.declared.HostWriting.{HostWriting}
+use Rattle.bilgethrum_values.specs.Host.{settingsFrom, packetFrom, hostArrival, hostDecision, hostTallies, hostReading, hostWriting}
 
 -- THE PREMISE of a call on a line: the scheduler that is kept in its words and the room that they are come from an opening and calls on them.
 abbrev pub OnLine : Room → Type 0
@@ -89,6 +90,10 @@ pub record HostAdvances (b : Room) (at : ℕ) (x : HostDecision) (left : Room) :
       (o : OnLine b)
       → Steps o (advance at) (advanceValues (advanced b at .answer)) (advanceNumbers (advanced b at .answer)) (handed (advanced b at .answer))
       (schedulerIn left) left
+
+-- TALLY: the five tallies of the scheduler that is kept there.
+abbrev pub tallied : Room → HostTallies
+tallied b = hostTallies (schedulerIn b .tallies)
 
 -- READ: what the reader gives, and its columns.
 pub record HostReads (image : List ℕ) (before : Columns) (x : HostReading) (after : Columns) : Type 0 where

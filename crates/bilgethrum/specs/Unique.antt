@@ -5,12 +5,12 @@ use mathlib.Core.List.{List}
 use Prim.Native.Nat.{ℕ}
 use Rattle.room.specs.Room.{Room}
 use Rattle.block_columns.specs.Columns.{Columns}
-use Rattle.bilgethrum.specs.declared.HostSettings.{HostSettings}
-use Rattle.bilgethrum.specs.declared.HostPacket.{HostPacket}
-use Rattle.bilgethrum.specs.declared.HostArrival.{HostArrival}
-use Rattle.bilgethrum.specs.declared.HostDecision.{HostDecision}
-use Rattle.bilgethrum.specs.declared.HostReading.{HostReading}
-use Rattle.bilgethrum.specs.declared.HostWriting.{HostWriting}
+use Rattle.bilgethrum_values.specs.declared.HostSettings.{HostSettings}
+use Rattle.bilgethrum_values.specs.declared.HostPacket.{HostPacket}
+use Rattle.bilgethrum_values.specs.declared.HostArrival.{HostArrival}
+use Rattle.bilgethrum_values.specs.declared.HostDecision.{HostDecision}
+use Rattle.bilgethrum_values.specs.declared.HostReading.{HostReading}
+use Rattle.bilgethrum_values.specs.declared.HostWriting.{HostWriting}
 use Rattle.bilgethrum.specs.Promises.{HostOpens, HostArrives, HostAdvances, HostReads, HostWrites}
 
 abbrev pub OneHostOpening : Type 0

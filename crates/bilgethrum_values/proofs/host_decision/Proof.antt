@@ -1,7 +1,7 @@
--- `bilgethrum::host_decision` meets its contract: each case has its numbers. Assumes nothing.
+-- `bilgethrum_values::host_decision` meets its contract: each case has its numbers. Assumes nothing.
 use borrow.Author.Needs.{needs}
-use Rattle.bilgethrum.proofs.host_decision.Statement.{statement}
-use Rattle.bilgethrum.proofs.host_decision.Tie as tie
+use Rattle.bilgethrum_values.proofs.host_decision.Statement.{statement}
+use Rattle.bilgethrum_values.proofs.host_decision.Tie as tie
 
 enum-known-answer : tie.Need-enum-known-answer
 enum-known-answer c = search needs

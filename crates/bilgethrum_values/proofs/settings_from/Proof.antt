@@ -1,7 +1,7 @@
--- `bilgethrum::settings_from` meets its contract: ticks per byte are narrowed. Assumes nothing.
+-- `bilgethrum_values::settings_from` meets its contract: ticks per byte are narrowed. Assumes nothing.
 use borrow.Author.Needs.{needs}
-use Rattle.bilgethrum.proofs.settings_from.Statement.{statement}
-use Rattle.bilgethrum.proofs.settings_from.Tie as tie
+use Rattle.bilgethrum_values.proofs.settings_from.Statement.{statement}
+use Rattle.bilgethrum_values.proofs.settings_from.Tie as tie
 
 narrowed-requires : tie.Need-narrowed-requires
 narrowed-requires c κs = search needs

@@ -1,7 +1,7 @@
--- `bilgethrum::host_packet` meets its contract: the marking as its number. Assumes nothing.
+-- `bilgethrum_values::host_packet` meets its contract: the marking as its number. Assumes nothing.
 use borrow.Author.Needs.{needs}
-use Rattle.bilgethrum.proofs.host_packet.Statement.{statement}
-use Rattle.bilgethrum.proofs.host_packet.Tie as tie
+use Rattle.bilgethrum_values.proofs.host_packet.Statement.{statement}
+use Rattle.bilgethrum_values.proofs.host_packet.Tie as tie
 
 code-of-requires : tie.Need-code-of-requires
 code-of-requires c κs = search needs

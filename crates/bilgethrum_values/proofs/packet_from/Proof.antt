@@ -1,7 +1,7 @@
--- `bilgethrum::packet_from` meets its contract: the number as its marking. Assumes nothing.
+-- `bilgethrum_values::packet_from` meets its contract: the number as its marking. Assumes nothing.
 use borrow.Author.Needs.{needs}
-use Rattle.bilgethrum.proofs.packet_from.Statement.{statement}
-use Rattle.bilgethrum.proofs.packet_from.Tie as tie
+use Rattle.bilgethrum_values.proofs.packet_from.Statement.{statement}
+use Rattle.bilgethrum_values.proofs.packet_from.Tie as tie
 
 marking-of-requires : tie.Need-marking-of-requires
 marking-of-requires c κs = search needs

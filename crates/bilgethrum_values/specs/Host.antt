@@ -5,23 +5,22 @@ use Prim.Native.Nat.{ℕ, min}
 use lib.ListN.{getD}
 use Rattle.units.specs.declared.Settings.{Settings}
 use Rattle.room.specs.declared.Packet.{Packet}
-use Rattle.room.specs.Room.{Room, codeOf, markingOf}
+use Rattle.room.specs.Room.{codeOf, markingOf}
 use Rattle.scheduler_state.specs.declared.Tallies.{Tallies}
 use Rattle.scheduler_answers.specs.declared.Admission.{Admission}
 use Rattle.scheduler_answers.specs.declared.Outcome.{Outcome}
 use Rattle.scheduler_answers.specs.Values.{admissionNumbers, advanceNumbers, tallyValues, handed}
-use Rattle.scheduler_kept.specs.Words.{schedulerIn}
 use Rattle.block_image.specs.declared.Reading.{Reading}
 use Rattle.block_reader.specs.Values.{readingValues}
 use Rattle.block_writer.specs.declared.Writing.{Writing}
 use Rattle.block_writer.specs.Values.{writingValues}
-use Rattle.bilgethrum.specs.declared.HostSettings.{HostSettings}
-use Rattle.bilgethrum.specs.declared.HostPacket.{HostPacket}
-use Rattle.bilgethrum.specs.declared.HostArrival.{HostArrival}
-use Rattle.bilgethrum.specs.declared.HostDecision.{HostDecision}
-use Rattle.bilgethrum.specs.declared.HostTallies.{HostTallies}
-use Rattle.bilgethrum.specs.declared.HostReading.{HostReading}
-use Rattle.bilgethrum.specs.declared.HostWriting.{HostWriting}
+use Rattle.bilgethrum_values.specs.declared.HostSettings.{HostSettings}
+use Rattle.bilgethrum_values.specs.declared.HostPacket.{HostPacket}
+use Rattle.bilgethrum_values.specs.declared.HostArrival.{HostArrival}
+use Rattle.bilgethrum_values.specs.declared.HostDecision.{HostDecision}
+use Rattle.bilgethrum_values.specs.declared.HostTallies.{HostTallies}
+use Rattle.bilgethrum_values.specs.declared.HostReading.{HostReading}
+use Rattle.bilgethrum_values.specs.declared.HostWriting.{HostWriting}
 
 -- The settings asked for. Ticks per byte beyond 16 bits count as the most of 16 bits: both are out of range.
 abbrev pub settingsFrom : HostSettings → Settings
@@ -80,10 +79,6 @@ hostTallies t =
       «marked_started» = getD (tallyValues t) 4 0;
       «marked_dropped» = getD (tallyValues t) 5 0;
     }
-
--- Those of the scheduler that is kept in a line's words.
-abbrev pub tallied : Room → HostTallies
-tallied r = hostTallies (schedulerIn r .tallies)
 
 -- A read's answer: its refusal, block, events and settings.
 abbrev pub hostReading : Reading → HostReading

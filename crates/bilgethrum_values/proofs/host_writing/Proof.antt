@@ -1,7 +1,7 @@
--- `bilgethrum::host_writing` meets its contract: each case has its numbers. Assumes nothing.
+-- `bilgethrum_values::host_writing` meets its contract: each case has its numbers. Assumes nothing.
 use borrow.Author.Needs.{needs}
-use Rattle.bilgethrum.proofs.host_writing.Statement.{statement}
-use Rattle.bilgethrum.proofs.host_writing.Tie as tie
+use Rattle.bilgethrum_values.proofs.host_writing.Statement.{statement}
+use Rattle.bilgethrum_values.proofs.host_writing.Tie as tie
 
 enum-known-answer : tie.Need-enum-known-answer
 enum-known-answer c = search needs

@@ -1,7 +1,7 @@
--- `bilgethrum::host_start` meets its contract: the packet as the host reads it. Assumes nothing.
+-- `bilgethrum_values::host_start` meets its contract: the packet as the host reads it. Assumes nothing.
 use borrow.Author.Needs.{needs}
-use Rattle.bilgethrum.proofs.host_start.Statement.{statement}
-use Rattle.bilgethrum.proofs.host_start.Tie as tie
+use Rattle.bilgethrum_values.proofs.host_start.Statement.{statement}
+use Rattle.bilgethrum_values.proofs.host_start.Tie as tie
 
 host-packet-requires : tie.Need-host-packet-requires
 host-packet-requires c κs = search needs
