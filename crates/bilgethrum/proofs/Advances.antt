@@ -1,10 +1,10 @@
 -- An advance for a C host, from the scheduler's: what it leaves is kept, or nothing is changed. Assumes nothing.
-use mathlib.Core.Path.{_≡_, refl, sym, ap, subst⁻¹, _∙_}
+use mathlib.Core.Path.{_≡_, refl, ap, subst⁻¹, _∙_}
 use mathlib.Core.Bool.{Bool, true, false}
 use mathlib.Core.List.{[], _∷_}
 use Prim.Native.Nat.{ℕ}
 use lib.Dec.{eqb}
-use borrow.Author.Tests.{eqb-false, eq-eqb, ne-eqb}
+use borrow.Author.Tests.{eqb-false}
 use Rattle.units.specs.declared.Instant.{Instant}
 use Rattle.rules.specs.Step.{advance}
 use Rattle.room.specs.Room.{Room}
@@ -21,7 +21,7 @@ use Rattle.scheduler_guarantees.proofs.Unchanged.{refused-unchanged}
 use Rattle.scheduler_kept.specs.Words.{schedulerIn}
 use Rattle.bilgethrum_values.specs.declared.HostDecision.{HostDecision}
 use Rattle.bilgethrum_values.specs.Host.{hostDecision}
-use Rattle.bilgethrum.specs.Promises.{OnLine, keeping, advanced, advancedWords, HostAdvances}
+use Rattle.bilgethrum.specs.Promises.{OnLine, keeping, ifAccepted, advanced, advancedWords, HostAdvances}
 use Rattle.bilgethrum.proofs.Kept.{keep-alike, steps-on}
 
 -- An answer with a refusal number is a refusal.
@@ -67,13 +67,5 @@ module _ (b : Room) (t : ℕ) where
     value : x ≡ given
     value = e ∙ ap (λ (y : Advanced). hostDecision (y .answer)) (h .value)
 
-    pub advance-kept : (then : Room) → x .refusal ≡ 0 → then ≡ keeping (a .scheduler) b → HostAdvances b t x then
-    advance-kept then z f =
-        defined x then line value
-        (rw (eq-eqb (given .refusal) 0 (ap (λ (y : HostDecision). y .refusal) (sym value) ∙ z))
-        (f ∙ ap (λ (y : Advanced). keeping (y .scheduler) b) (h .value)))
-
-    pub advance-unchanged : (x .refusal ≡ 0 → ⊥) → HostAdvances b t x b
-    advance-unchanged z =
-        let refused : given .refusal ≡ 0 → ⊥ = λ k. z (ap (λ (y : HostDecision). y .refusal) value ∙ k) in
-        defined x b line value (rw (ne-eqb (given .refusal) 0 refused) refl)
+    pub host-advances : (then : Room) → then ≡ ifAccepted (x .refusal) (keeping (a .scheduler) b) b → HostAdvances b t x then
+    host-advances then f = defined x then line value (rw (value, h .value) at f)

@@ -1,11 +1,11 @@
 -- An arrival for a C host, from the scheduler's: what it leaves is kept, or nothing is changed. Assumes nothing.
-use mathlib.Core.Path.{_≡_, refl, sym, ap, subst⁻¹, _∙_}
+use mathlib.Core.Path.{_≡_, refl, ap, subst⁻¹, _∙_}
 use mathlib.Core.Bool.{Bool, true, false}
 use mathlib.Core.List.{[], _∷_}
 use mathlib.Core.Option.{none}
 use Prim.Native.Nat.{ℕ}
 use lib.Dec.{eqb}
-use borrow.Author.Tests.{eqb-false, eq-eqb, ne-eqb}
+use borrow.Author.Tests.{eqb-false}
 use Rattle.room.specs.declared.Packet.{Packet}
 use Rattle.room.specs.Room.{Room}
 use Rattle.scheduler_state.specs.declared.Scheduler.{Scheduler}
@@ -22,7 +22,7 @@ use Rattle.scheduler_kept.specs.Words.{schedulerIn}
 use Rattle.bilgethrum_values.specs.declared.HostPacket.{HostPacket}
 use Rattle.bilgethrum_values.specs.declared.HostArrival.{HostArrival}
 use Rattle.bilgethrum_values.specs.Host.{packetFrom, hostArrival}
-use Rattle.bilgethrum.specs.Promises.{OnLine, keeping, arrived, arrivedWords, HostArrives}
+use Rattle.bilgethrum.specs.Promises.{OnLine, keeping, ifAccepted, arrived, arrivedWords, HostArrives}
 use Rattle.bilgethrum.proofs.Kept.{keep-alike, steps-on}
 
 -- An answer with a refusal number is a refusal.
@@ -71,13 +71,12 @@ module _ (b : Room) (p : HostPacket) where
     value : x ≡ given
     value = e ∙ ap (λ (y : Arrived). hostArrival (y .answer)) (h .value)
 
-    pub arrive-kept : (then : Room) → x .refusal ≡ 0 → then ≡ keeping (a .scheduler) left → HostArrives b p x then
-    arrive-kept then z f =
-        defined x then line value
-        (rw (eq-eqb (given .refusal) 0 (ap (λ (y : HostArrival). y .refusal) (sym value) ∙ z))
-        (f ∙ (ap (λ (y : Arrived). keeping (y .scheduler) left) (h .value) ∙ ap (keeping (arrived b p .scheduler)) (h .room))))
+    -- Where the call is refused, the room was left as it was.
+    settled : (k : Bool) → eqb (given .refusal) 0 ≡ k → (x : Room) → pick k x (arriveRoom s b q) ≡ pick k x b
+    settled true i x = refl
+    settled false i x = unchanged (eqb-false _ _ i) .1
 
-    pub arrive-unchanged : (x .refusal ≡ 0 → ⊥) → HostArrives b p x left
-    arrive-unchanged z =
-        let refused : given .refusal ≡ 0 → ⊥ = λ k. z (ap (λ (y : HostArrival). y .refusal) value ∙ k) in
-        defined x left line value (rw (ne-eqb (given .refusal) 0 refused) (h .room ∙ unchanged refused .1))
+    pub host-arrives : (then : Room) → then ≡ ifAccepted (x .refusal) (keeping (a .scheduler) left) left → HostArrives b p x then
+    host-arrives then f =
+        defined x then line value
+        (rw (value, h .value, h .room) at f ∙ settled (eqb (given .refusal) 0) refl (keeping (arrived b p .scheduler) (arriveRoom s b q)))

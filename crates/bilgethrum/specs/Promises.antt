@@ -43,6 +43,10 @@ OnLine b = FromOpening (schedulerIn b) b
 abbrev pub keeping : Scheduler → Room → Room
 keeping s b = withKept b 0 (schedulerWords s)
 
+-- One room where a call's refusal number is 0, the other where it is refused.
+abbrev pub ifAccepted : (refusal : ℕ) → Room → Room → Room
+ifAccepted n accepted refused = pick (eqb n 0) accepted refused
+
 -- OPEN: what the scheduler's opening gives is kept, whatever stood there.
 abbrev pub opened : HostSettings → Opened
 opened asked = openOf (settingsFrom asked)
@@ -63,7 +67,7 @@ arrived b p = arriveOf (schedulerIn b) b (packetFrom p)
 -- The words then: the room and the scheduler that the arrival leaves, or as they were where it is refused.
 abbrev pub arrivedWords : Room → HostPacket → Room
 arrivedWords b p =
-    pick (eqb (hostArrival (arrived b p .answer) .refusal) 0) (keeping (arrived b p .scheduler) (arriveRoom (schedulerIn b) b (packetFrom p))) b
+    ifAccepted (hostArrival (arrived b p .answer) .refusal) (keeping (arrived b p .scheduler) (arriveRoom (schedulerIn b) b (packetFrom p))) b
 
 pub record HostArrives (b : Room) (p : HostPacket) (x : HostArrival) (left : Room) : Type 0 where
   pub value : x ≡ hostArrival (arrived b p .answer)
@@ -80,7 +84,7 @@ advanced b at = advanceOf (schedulerIn b) b (record { 0 = at })
 
 -- The words then: with the scheduler that the advance leaves, or as they were where it is refused.
 abbrev pub advancedWords : Room → (at : ℕ) → Room
-advancedWords b at = pick (eqb (hostDecision (advanced b at .answer) .refusal) 0) (keeping (advanced b at .scheduler) b) b
+advancedWords b at = ifAccepted (hostDecision (advanced b at .answer) .refusal) (keeping (advanced b at .scheduler) b) b
 
 pub record HostAdvances (b : Room) (at : ℕ) (x : HostDecision) (left : Room) : Type 0 where
   pub value : x ≡ hostDecision (advanced b at .answer)

@@ -6,7 +6,7 @@ ghost use Rattle.block_columns.specs.Columns.{columns};
 ghost use Rattle.run.specs.Text.{textOf};
 ghost use Rattle.run.specs.Ran.{Answers};
 ghost use Rattle.bilgethrum_values.specs.Host.{packetFrom};
-ghost use Rattle.bilgethrum.specs.Promises.{OnLine, HostOpens, HostArrives, HostAdvances, tallied, HostReads, HostWrites};
+ghost use Rattle.bilgethrum.specs.Promises.{OnLine, keeping, ifAccepted, HostOpens, HostArrives, HostAdvances, tallied, HostReads, HostWrites};
 use bilgethrum_values::HostArrival;
 use bilgethrum_values::HostDecision;
 use bilgethrum_values::HostPacket;
@@ -24,8 +24,19 @@ use bilgethrum_values::refusal_of;
 use bilgethrum_values::settings_from;
 use room::Room;
 use scheduler_kept::scheduler_in;
+use scheduler_state::Scheduler;
 use units::Bytes;
 use units::Instant;
+
+// Keeps the scheduler in the line's words, unless the call was refused: then no word is changed.
+fn keep_accepted(refusal: u32, scheduler: Scheduler, line: &mut Room)
+    ensures { λ r. ⌜ now (line .exit) ≡ ifAccepted refusal (keeping scheduler (now (line .entry))) (now (line .entry)) ⌝ }
+{
+    if refusal != 0 {
+        return;
+    }
+    scheduler_kept::keep(scheduler, line);
+}
 
 // Opens a line, whatever stood in its words.
 #[no_mangle]
@@ -48,10 +59,7 @@ pub extern "C" fn bilgethrum_arrive(line: &mut Room, packet: HostPacket) -> Host
     let arrived = scheduler::arrive(scheduler, packet_from(packet), line);
     let answer = arrived.answer;
     let given = host_arrival(answer);
-    if given.refusal != 0 {
-        return given;
-    }
-    scheduler_kept::keep(arrived.scheduler, line);
+    keep_accepted(given.refusal, arrived.scheduler, line);
     given
 }
 
@@ -65,10 +73,7 @@ pub extern "C" fn bilgethrum_advance(line: &mut Room, at: u64) -> HostDecision
     let advanced = scheduler::advance(scheduler, Instant(at), line);
     let answer = advanced.answer;
     let decided = host_decision(answer);
-    if decided.refusal != 0 {
-        return decided;
-    }
-    scheduler_kept::keep(advanced.scheduler, line);
+    keep_accepted(decided.refusal, advanced.scheduler, line);
     decided
 }
 

@@ -1,5 +1,5 @@
 -- `bilgethrum::bilgethrum_arrive` meets its contract: the scheduler's arrival, kept unless it is refused. Assumes nothing.
-use Rattle.bilgethrum.proofs.Arrives.{arrive-kept, arrive-unchanged}
+use Rattle.bilgethrum.proofs.Arrives.{host-arrives}
 use borrow.Author.Needs.{needs}
 use Rattle.bilgethrum.proofs.bilgethrum_arrive.Statement.{statement}
 use Rattle.bilgethrum.proofs.bilgethrum_arrive.Tie as tie
@@ -16,22 +16,15 @@ arrive-requires c κs = rw (c .before .before .scheduler-in .ensures) (c .before
 host-arrival-requires : tie.Need-host-arrival-requires
 host-arrival-requires c κs = search needs
 
+keep-accepted-requires : tie.Need-keep-accepted-requires
+keep-accepted-requires c κs = search needs
+
 returns : tie.Need-returns
 returns c =
     let start = c .before .before .before .before .before .before .before .before in
-    arrive-unchanged _ (start .args .packet) (c .before .before .before .arrive .result) _ (c .before .before .host-arrival .result) (start .pre)
-    (rw (c .before .before .before .before .before .before .scheduler-in .ensures, c .before .before .before .before .before .packet-from .ensures) at (c .before .before .before .arrive .ensures)) (c .before .before .host-arrival .ensures)
-    (c .if1 .taken)
-
-keep-requires : tie.Need-keep-requires
-keep-requires c κs = search needs
-
-returns-2 : tie.Need-returns-2
-returns-2 c =
-    let start = c .before .before .before .before .before .before .before .before .before .before in
-    arrive-kept _ (start .args .packet) (c .before .before .before .before .before .arrive .result) _ (c .before .before .before .before .host-arrival .result) (start .pre)
-    (rw (c .before .before .before .before .before .before .before .before .scheduler-in .ensures, c .before .before .before .before .before .before .before .packet-from .ensures) at (c .before .before .before .before .before .arrive .ensures)) (c .before .before .before .before .host-arrival .ensures) _
-    (c .before .before .if1 .left) (c .keep .ensures)
+    host-arrives _ (start .args .packet) (c .before .before .before .arrive .result) _ (c .before .before .host-arrival .result) (start .pre)
+    (rw (c .before .before .before .before .before .before .scheduler-in .ensures, c .before .before .before .before .before .packet-from .ensures) at (c .before .before .before .arrive .ensures)) (c .before .before .host-arrival .ensures) _
+    (c .keep-accepted .ensures)
 
 pub bilgethrum-arrive-spec : {M : Type 1} → statement M
 bilgethrum-arrive-spec =
@@ -41,6 +34,5 @@ bilgethrum-arrive-spec =
     packet-from-requires
     arrive-requires
     host-arrival-requires
-    returns
-    keep-requires
-    returns-2)
+    keep-accepted-requires
+    returns)
