@@ -25,8 +25,23 @@ struct cost {
     double baseline;
 };
 
+/* An image and the times that runs on it took. */
+struct measured {
+    uint8_t image[MOST_BLOCKS * BLOCK_BYTES];
+    size_t length;
+    double archive[TURNS];
+    double baseline[TURNS];
+};
+
+/* How many packets wait, where the cost of an event is held against that. */
+static const uint64_t waiting_counts[] = { 2, 64, 128 };
+
+enum { COUNTS = sizeof waiting_counts / sizeof waiting_counts[0] };
+
+/* For each of those an image that fills the queue, and one that goes on from there. */
+static struct measured pictures[2 * COUNTS];
+static uint8_t *const image = pictures[0].image;
 static struct trace trace;
-static uint8_t image[MOST_BLOCKS * BLOCK_BYTES];
 static uint8_t answer[BILGETHRUM_ANSWER_ENOUGH];
 
 static double nanoseconds(void)
@@ -36,11 +51,11 @@ static double nanoseconds(void)
     return 1e9 * (double)now.tv_sec + (double)now.tv_nsec;
 }
 
-static double time_of(run_function *run, size_t length)
+static double time_of(run_function *run, const struct measured *picture)
 {
     double begin = nanoseconds();
     for (int i = 0; i < CALLS_PER_TURN; i++)
-        run(image, length, answer, sizeof answer);
+        run(picture->image, picture->length, answer, sizeof answer);
     return (nanoseconds() - begin) / CALLS_PER_TURN;
 }
 
@@ -57,26 +72,40 @@ static double median(double *times)
 }
 
 /* A ratio of two programs that do different work would say nothing. */
-static void demand_same_text(size_t length)
+static void demand_same_text(const struct measured *picture)
 {
     static uint8_t other[BILGETHRUM_ANSWER_ENOUGH];
-    int64_t one = bilgethrum_run(image, length, answer, sizeof answer);
-    int64_t two = baseline_run(image, length, other, sizeof other);
+    int64_t one = bilgethrum_run(picture->image, picture->length, answer, sizeof answer);
+    int64_t two = baseline_run(picture->image, picture->length, other, sizeof other);
     if (one < 0 || one != two || memcmp(answer, other, (size_t)one) != 0) {
         fprintf(stderr, "benchmark: archive and baseline give different texts\n");
         exit(1);
     }
 }
 
+/* The machine's speed drifts, so what is to be compared is called by turns. */
+static void measure_by_turns(int count)
+{
+    for (int i = 0; i < count; i++)
+        demand_same_text(&pictures[i]);
+    for (int turn = 0; turn < TURNS; turn++)
+        for (int i = 0; i < count; i++) {
+            pictures[i].archive[turn] = time_of(bilgethrum_run, &pictures[i]);
+            pictures[i].baseline[turn] = time_of(baseline_run, &pictures[i]);
+        }
+}
+
+static struct cost cost_of(struct measured *picture)
+{
+    return (struct cost){ median(picture->archive), median(picture->baseline) };
+}
+
+/* The cost of a run on the image. */
 static struct cost measure(size_t length)
 {
-    static double archive[TURNS], baseline[TURNS];
-    demand_same_text(length);
-    for (int turn = 0; turn < TURNS; turn++) {
-        archive[turn] = time_of(bilgethrum_run, length);
-        baseline[turn] = time_of(baseline_run, length);
-    }
-    return (struct cost){ median(archive), median(baseline) };
+    pictures[0].length = length;
+    measure_by_turns(1);
+    return cost_of(&pictures[0]);
 }
 
 static void print_row(const char *what, const char *unit, struct cost cost, double units)
@@ -117,41 +146,46 @@ static void measure_whole_run(const char *what, uint64_t marked_length, int star
     print_row(what, "ns/event", measure(trace_to_image(&trace, image)), (double)trace.count);
 }
 
+enum { UNMARKED_TIME = 2048 * 64, MARKED_TIME = 64, TURNED_EVENTS = 1800 };
+
 /* Fills the queue with this many, half of each marking, then lets one start and one
  * arrive by turns.  All extra delays and most starts have equally many digits,
  * whatever waits, so that only the number waiting makes a difference. */
-static struct cost measure_waiting(uint64_t waiting)
+static void picture_waiting(uint64_t waiting, struct measured *filled, struct measured *whole)
 {
-    enum { UNMARKED_TIME = 2048 * 64, MARKED_TIME = 64, TURNED_EVENTS = 1800 };
     begin_trace(MOST_ALPHA, 64);
     append(MARKED, 2048, 0);
     append(ADVANCE, 0, 0);
     for (uint64_t i = 0; i < waiting; i++)
         append(i % 2 == 0 ? UNMARKED : MARKED, i % 2 == 0 ? 2048 : 1, 0);
-    struct cost filled = measure(trace_to_image(&trace, image));
+    filled->length = trace_to_image(&trace, filled->image);
     uint64_t due = UNMARKED_TIME;
     for (int i = 0; i < TURNED_EVENTS / 2; i++) {
         append(ADVANCE, 0, due);
         append(i % 2 == 0 ? UNMARKED : MARKED, i % 2 == 0 ? 2048 : 1, due);
         due += i % 2 == 0 ? UNMARKED_TIME : MARKED_TIME;
     }
-    struct cost whole = measure(trace_to_image(&trace, image));
-    return (struct cost){ (whole.archive - filled.archive) / TURNED_EVENTS,
-                          (whole.baseline - filled.baseline) / TURNED_EVENTS };
+    whole->length = trace_to_image(&trace, whole->image);
 }
 
 static void measure_per_event(void)
 {
-    struct cost few = measure_waiting(2);
-    struct cost half = measure_waiting(64);
-    struct cost full = measure_waiting(128);
-    print_row("one event, 1 or 2 waiting", "ns/event", few, 1);
-    print_row("one event, 64 waiting", "ns/event", half, 1);
-    print_row("one event, 128 waiting", "ns/event", full, 1);
+    struct cost costs[COUNTS];
+    for (int i = 0; i < COUNTS; i++)
+        picture_waiting(waiting_counts[i], &pictures[2 * i], &pictures[2 * i + 1]);
+    measure_by_turns(2 * COUNTS);
+    for (int i = 0; i < COUNTS; i++) {
+        struct cost filled = cost_of(&pictures[2 * i]), whole = cost_of(&pictures[2 * i + 1]);
+        costs[i] = (struct cost){ (whole.archive - filled.archive) / TURNED_EVENTS,
+                                  (whole.baseline - filled.baseline) / TURNED_EVENTS };
+    }
+    print_row("one event, 1 or 2 waiting", "ns/event", costs[0], 1);
+    print_row("one event, 64 waiting", "ns/event", costs[1], 1);
+    print_row("one event, 128 waiting", "ns/event", costs[2], 1);
     printf("%-44s %-9s %9.2f %9.2f\n", "  64 waiting to 1 or 2", "ratio",
-           half.archive / few.archive, half.baseline / few.baseline);
+           costs[1].archive / costs[0].archive, costs[1].baseline / costs[0].baseline);
     printf("%-44s %-9s %9.2f %9.2f\n", "  128 waiting to 1 or 2", "ratio",
-           full.archive / few.archive, full.baseline / few.baseline);
+           costs[2].archive / costs[0].archive, costs[2].baseline / costs[0].baseline);
 }
 
 /* 64 blocks of records of one kind, nothing run: byte at of the last block is spoiled. */
