@@ -3,12 +3,13 @@ use mathlib.Core.Path.{_≡_, refl, sym, ap, subst, _∙_}
 use mathlib.Core.List.{List, [], _∷_, _++_, append-assoc, append-nil}
 use Prim.Native.Nat.{ℕ, zero, suc, _+_, _-_, _*_, _/_, _%_, _^_, _≤_, _<_}
 use native.Mathlib.Omega.{arith}
-use native.Mathlib.Nat.{add-zero, add-suc, add-assoc, mul-assoc, add-mul, mul-one, pow-zero, pow-suc, div-one, mul-comm, div-div-eq-div-mul}
+use native.Mathlib.Nat.{add-zero, zero-add, add-suc, suc-add, add-assoc, add-left-comm, mul-assoc, mul-left-comm, add-mul, mul-add, zero-mul, one-mul, mul-one, pow-zero, pow-suc, div-one, mul-comm, div-div-eq-div-mul}
 use lib.Arith.{mod-mul, digits-div, digits-mod, digits-lt}
+use lib.Pow.{pow-add}
 use lib.ListN.{length, getD, take, drop, length-append, length-drop, List·getD-append}
 use lib.Seq.{sets, take-suc, getD-drop, getD-at, getD-append-add}
 use Rattle.lists.proofs.Stores.{stored, stored-more}
-use Rattle.octets.specs.Octets.{Octets, numberAt, octetsOf}
+use Rattle.octets.specs.Octets.{Octets, numberAt, octetsOf, lowFirst, turned}
 
 -- n bytes and then m bytes: the first number scaled by 256 ^ m, and the second.
 pub number-add : (s : List ℕ) (at n m : ℕ) → numberAt s at (n + m) ≡ numberAt s at n * 256 ^ m + numberAt s (at + n) m
@@ -18,6 +19,11 @@ number-add s at n (suc m) =
     rw (add-suc n m)
     (ap (λ (x : ℕ). x * 256 + getD s (at + (n + m)) 0) (number-add s at n m)
     ∙ simp (add-mul, pow-suc, mul-assoc, add-assoc))
+
+-- No byte spells 0.
+number-none : (s : List ℕ) (at : ℕ) → 0 ≡ numberAt s at 0
+unfolding numberAt
+number-none s at = refl
 
 -- A byte spells itself.
 pub number-one : (s : List ℕ) (at : ℕ) → numberAt s at 1 ≡ getD s at 0
@@ -58,6 +64,40 @@ pub number-room : (s : List ℕ) (at n : ℕ) → Octets s → numberAt s at n <
 unfolding numberAt
 number-room s at zero b = omega arith
 number-room s at (suc n) b = rw (pow-suc 256 n) (digits-lt (number-room s at n b) (b (at + n)))
+
+-- The same bytes, first lowest: n bytes, and then m bytes scaled by 256 ^ n.
+pub low-add : (s : List ℕ) (at n m : ℕ) → lowFirst s at (n + m) ≡ lowFirst s at n + 256 ^ n * lowFirst s (at + n) m
+unfolding lowFirst
+low-add s at zero m = simp (add-zero, pow-zero, one-mul, zero-add)
+low-add s at (suc n) m =
+    let e : at + 1 + n ≡ at + suc n = omega arith in
+    let h = low-add s (at + 1) n m in
+    rw (suc-add n m, h, e, pow-suc 256 n) (simp (mul-add, add-assoc, mul-assoc, mul-left-comm))
+
+-- Turned by parts: the lower n bytes come first.
+pub turned-add : (n m v : ℕ) → turned (n + m) v ≡ turned n (v % 256 ^ n) * 256 ^ m + turned m (v / 256 ^ n)
+unfolding turned
+turned-add zero m v = simp (pow-zero, div-one, zero-mul, zero-add)
+turned-add (suc n) m v =
+    let low : v % 256 < 256 = omega arith in
+    let e : v % 256 ^ suc n ≡ (v / 256 % 256 ^ n) * 256 + v % 256 = ap (λ (k : ℕ). v % k) (pow-suc 256 n) ∙ mod-mul v (pos n) (omega arith) in
+    let d : v / 256 / 256 ^ n ≡ v / 256 ^ suc n = div-div-eq-div-mul v 256 (256 ^ n) ∙ ap (λ (k : ℕ). v / k) (mul-comm 256 (256 ^ n) ∙ sym (pow-suc 256 n)) in
+    rw (suc-add n m, turned-add n m (v / 256), e, digits-div (v / 256 % 256 ^ n) low, digits-mod (v / 256 % 256 ^ n) low, d, pow-add 256 n m)
+    (simp (add-mul, add-assoc, mul-assoc))
+
+-- What is loaded and turned is what the bytes spell.
+pub turned-low : (s : List ℕ) (at n : ℕ) → Octets s → turned n (lowFirst s at n) ≡ numberAt s at n
+unfolding turned lowFirst
+turned-low s at zero b = number-none s at
+turned-low s at (suc n) b =
+    let low : getD s at 0 < 256 = b at in
+    let rest = lowFirst s (at + 1) n in
+    let d : (getD s at 0 + 256 * rest) / 256 ≡ rest = omega arith in
+    let m : (getD s at 0 + 256 * rest) % 256 ≡ getD s at 0 = omega arith in
+    rw (d, m, turned-low s (at + 1) n b)
+    (ap (λ (k : ℕ). k * 256 ^ n + numberAt s (at + 1) n) (sym (number-one s at))
+    ∙ sym (number-add s at 1 n)
+    ∙ ap (λ (k : ℕ). numberAt s at k) (omega arith))
 
 pub length-octets : (n v : ℕ) → length (octetsOf n v) ≡ n
 unfolding octetsOf

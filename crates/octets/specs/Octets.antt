@@ -13,6 +13,16 @@ unfoldable pub numberAt : List ℕ → (at width : ℕ) → ℕ
 numberAt s at zero = 0
 numberAt s at (suc n) = numberAt s at n * 256 + getD s (at + n) 0
 
+-- The same with the first the lowest, as the machine holds a number.
+unfoldable pub lowFirst : List ℕ → (at width : ℕ) → ℕ
+lowFirst s at zero = 0
+lowFirst s at (suc n) = getD s at 0 + 256 * lowFirst s (at + 1) n
+
+-- A number with its bytes, as many as `width` says, in the opposite order.
+unfoldable pub turned : (width value : ℕ) → ℕ
+turned zero v = 0
+turned (suc n) v = v % 256 * 256 ^ n + turned n (v / 256)
+
 -- The bytes that spell a number, as many as `width` says, the first the highest.
 unfoldable pub octetsOf : (width value : ℕ) → List ℕ
 octetsOf zero v = []
