@@ -7,21 +7,20 @@ ghost use Rattle.scheduler.specs.Machine.{FromOpening};
 use room::Packet;
 use room::Room;
 use scheduler_state::Scheduler;
-use text_lines::Row;
 use units::Bytes;
 use units::Instant;
 use units::Marking;
 use units::Settings;
 use units::Ticks;
 
-// Prints a line, which has at most 107 bytes.
-fn print(row: Row)
-    requires { ⌜ (row .count ≤ 5) × (length (row .values) ≡ 5) ⌝ }
-{
-    let mut line = [0u8; 107];
-    let values = row.values;
-    let end = text_lines::tell_line(&mut line, 0, row.letter, &values, row.count);
-    io::write_all(1, &line[..end]);
+// No line is longer.
+const LINE_MOST: usize = 107;
+
+// Prints a line that was told to an area and ends there; one that did not fit is left out.
+fn print(line: &[u8], end: usize) {
+    if end <= line.len() {
+        io::write_all(1, &line[..end]);
+    }
 }
 
 // Kind 1 is an unmarked arrival, any other but 3 a marked one.
@@ -37,10 +36,12 @@ fn call(scheduler: Scheduler, kind: u8, length: u32, at: u64, room: &mut Room) -
     requires { ⌜ FromOpening scheduler (now room) ⌝ }
     ensures { λ r. ⌜ FromOpening r (now (room .exit)) ⌝ }
 {
+    let mut line = [0u8; LINE_MOST];
     if kind == 3 {
         let advanced = scheduler::advance(scheduler, Instant(at), room);
         let answer = advanced.answer;
-        print(text_answers::advance(answer));
+        let end = text_answers::tell_advance(&mut line, 0, answer);
+        print(&line, end);
         return advanced.scheduler;
     }
     let packet = Packet {
@@ -51,7 +52,8 @@ fn call(scheduler: Scheduler, kind: u8, length: u32, at: u64, room: &mut Room) -
     };
     let arrived = scheduler::arrive(scheduler, packet, room);
     let answer = arrived.answer;
-    print(text_answers::admission(answer));
+    let end = text_answers::tell_admission(&mut line, 0, answer);
+    print(&line, end);
     arrived.scheduler
 }
 
@@ -80,8 +82,10 @@ fn play(more: usize, kinds: &[u8], spans: &[u32], instants: &[u64])
         next = call(next, kinds[i], spans[i], instants[i], &mut room);
         k += 1;
     }
+    let mut line = [0u8; LINE_MOST];
     let tallies = next.tallies;
-    print(text_answers::tallies(tallies));
+    let end = text_answers::tell_tallies(&mut line, 0, tallies);
+    print(&line, end);
 }
 
 // u50@0, m60@0, u40@0, a0, a50, m45@60, u30@70, u10@125, a110, a150, m101@160, u20@160, a170, m30@165.

@@ -91,7 +91,7 @@ table =
     -- P9: the sum of four words
     ∷ case ((onesSum 0 (0x00 ∷ 0x01 ∷ 0xf2 ∷ 0x03 ∷ 0xf4 ∷ 0xf5 ∷ 0xf6 ∷ 0xf7 ∷ []) ∷ []) ∷ []) ((0xddf2 ∷ []) ∷ [])
     -- P10: the check of one block that holds only u50@0 at place 0
-    ∷ case ((checkOf (blockBytes settings 0 1 (λ k. Unmarked (record { 0 = 50 }) 0 (record { 0 = 0 }))) ∷ []) ∷ []) ((0xfd67 ∷ []) ∷ [])
+    ∷ case ((checkOf (blockBytes settings 0 1 (λ k. Unmarked (record { 0 = 0 }) (record { 0 = 50 }) 0)) ∷ []) ∷ []) ((0xfd67 ∷ []) ∷ [])
     ∷ []
 
 -- Each case gives what document 01 says.

@@ -12,7 +12,6 @@ use Rattle.block_image.specs.declared.Reading.{Reading}
 use Rattle.block_image.specs.declared.Reading.the-variants.{Accepted}
 use Rattle.block_image.specs.Image.{judged}
 use Rattle.block_image.proofs.Accepted.{whole, count-most}
-use Rattle.text.specs.Text.{valuesText}
 use Rattle.text_lines.specs.Told.{Told}
 use Rattle.run.specs.Text.{readText, textOf}
 use Rattle.run.specs.Ran.{Answers}
@@ -29,10 +28,6 @@ answers-told {text} {before} {after} {p} {r} h t e =
 pub answers-short : {text before : List ℕ} {r : ℤ} → length before < length text → r ≡ negsuc 31 → Answers text before before r
 answers-short {text} {before} {r} h e =
     record { result = rw (lt-leb (length text) (length before) h) e; area = rw (lt-leb (length text) (length before) h) }
-
--- A line by the values that it shows.
-pub told-as : {before after k l : List ℕ} {at p : ℕ} → k ≡ l → Told before at (valuesText k) after p → Told before at (valuesText l) after p
-told-as {before} {after} {k} {l} {at} {p} h t = subst (λ (m : List ℕ). Told before at (valuesText m) after p) h t
 
 -- The text of an image that is read so; q is the number as it is handed on.
 pub answers-read : (image : List ℕ) {before after : List ℕ} {q r : ℤ} (x y : Reading) → x ≡ judged image → x ≡ y → q ≡ r

@@ -9,8 +9,7 @@ ghost use Rattle.run.specs.Ran.{Answers};
 use block_image::Reading;
 use block_image::judge_image;
 use run_events::tell_trace;
-use text_lines::line_length;
-use text_lines::tell_line;
+use text_answers::tell_refused_image;
 use units::Settings;
 
 // No event's line is longer than this, nor the tally line than that.
@@ -48,12 +47,11 @@ fn answer_trace(image: &[u8], settings: Settings, events: usize, answer: &mut [u
 fn answer_refused(number: u8, block: u32, answer: &mut [u8]) -> i64
     ensures { λ r. ⌜ Answers (refusedText number block) (now (answer .entry)) (now (answer .exit)) r ⌝ }
 {
-    let row = text_answers::refused_image(number, block);
-    let values = row.values;
-    if answer.len() < line_length(&values, row.count) {
+    let mut none = [0u8; 1];
+    if answer.len() < tell_refused_image(&mut none, 0, number, block) {
         return SHORT;
     }
-    as_result(tell_line(answer, 0, row.letter, &values, row.count))
+    as_result(tell_refused_image(answer, 0, number, block))
 }
 
 // The whole run: the text of an image, at the start of the area. Returns the text's length, or -32 where the area is shorter than that;

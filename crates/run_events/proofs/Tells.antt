@@ -1,5 +1,5 @@
 -- One event more: the scheduler and its room, and the text. Assumes nothing.
-use mathlib.Core.Path.{_≡_, refl, sym, ap, _∙_}
+use mathlib.Core.Path.{_≡_, refl, sym, ap, subst, _∙_}
 use mathlib.Core.Bool.{Bool, true, false}
 use mathlib.Core.List.{List, [], _∷_, _++_}
 use Prim.Native.Nat.{ℕ, zero, suc, _+_, _≤_}
@@ -15,7 +15,6 @@ use Rattle.room.specs.Room.{Room}
 use Rattle.scheduler_state.specs.declared.Scheduler.{Scheduler}
 use Rattle.scheduler.specs.Machine.{made, schedulerAfter, roomAfter, valuesBy, FromOpening}
 use Rattle.text.specs.Text.{valuesText}
-use Rattle.text_lines.specs.Row.{rowText}
 use Rattle.text_lines.specs.Told.{Told}
 use Rattle.text_lines.proofs.Tells.{told-then}
 use Rattle.run_events.specs.declared.Played.{Played}
@@ -57,9 +56,9 @@ module _ (image : List ℕ) (s : Scheduler) (r : Room) where
   grows i (suc n) h = grows-by i n (leb i n) refl h (grows i n)
 
   -- One event played, from where the first k have led.
-  module _ (k : ℕ) (then : Scheduler) (room left : Room) (e : Event) (x : Played) (before : Reached image s r k then room) (is : e ≡ eventAt image k)
-      (plays : Plays then room (callOf e) x left) where
-    at : Plays then room (callOf (eventAt image k)) x left
+  module _ (k : ℕ) (then : Scheduler) (room left : Room) (e : Event) (x : Played) (answer after : List ℕ) (next : ℕ)
+      (before : Reached image s r k then room) (is : e ≡ eventAt image k) (plays : Plays answer next after then room (callOf e) x left) where
+    at : Plays answer next after then room (callOf (eventAt image k)) x left
     at = event-plays (sym is) plays
 
     pub reached-more : Reached image s r (k + 1) (x .scheduler) left
@@ -72,11 +71,11 @@ module _ (image : List ℕ) (s : Scheduler) (r : Room) where
           kept = plays .kept;
         })
 
-    row-text : rowText (x .row) ≡ valuesText (valuesAt k)
-    row-text = ap valuesText (at .line .is) ∙ rw (before .scheduler, before .room)
+    values : made then room (callOf (eventAt image k)) .values ≡ valuesAt k
+    values = rw (before .scheduler, before .room)
 
-    pub text-more : eventsText image s r (k + 1) ≡ eventsText image s r k ++ rowText (x .row)
-    text-more = rw (add-one k, row-text) (text-next k)
+    pub line-told : Told answer next (valuesText (valuesAt k)) after (x .next)
+    line-told = subst (λ (v : List ℕ). Told answer next (valuesText v) after (x .next)) values (at .line)
 
 -- Before the first event.
 pub reached-none : (image : List ℕ) (s : Scheduler) (r : Room) → FromOpening s r → Reached image s r 0 s r
@@ -99,12 +98,15 @@ pub record SoFar (image : List ℕ) (s : Scheduler) (r : Room) (l : List ℕ) (k
 pub so-far-none : (image : List ℕ) (s : Scheduler) (r : Room) (l : List ℕ) → FromOpening s r → SoFar image s r l 0 s r l 0
 so-far-none image s r l h = record { reached = reached-none image s r h; told = told-none image s r l; kept = refl }
 
-pub so-far-more : (image : List ℕ) (s : Scheduler) (r : Room) (l : List ℕ) (k : ℕ) (then : Scheduler) (room left : Room) (answer after : List ℕ)
-    (next next′ : ℕ) (e : Event) (x : Played) → SoFar image s r l k then room answer next → e ≡ eventAt image k → Plays then room (callOf e) x left
-    → Told answer next (rowText (x .row)) after next′ → length after ≡ length answer → SoFar image s r l (k + 1) (x .scheduler) left after next′
-so-far-more image s r l k then room left answer after next next′ e x h is plays told same =
-    record {
-      reached = reached-more image s r k then room left e x (h .reached) is plays;
-      told = rw (text-more image s r k then room left e x (h .reached) is plays) (told-then (h .told) (h .kept) told);
+pub so-far-more : (image : List ℕ) (s : Scheduler) (r : Room) (l : List ℕ) (k : ℕ) (then : Scheduler) (room left : Room) (answer after : List ℕ) (next : ℕ)
+    (e : Event) (x : Played) (y : Scheduler) → SoFar image s r l k then room answer next → e ≡ eventAt image k → Plays answer next after then room (callOf e) x left
+    → length after ≡ length answer → y ≡ x .scheduler → SoFar image s r l (k + 1) y left after (x .next)
+so-far-more image s r l k then room left answer after next e x y h is plays same copy =
+    rw copy
+    (record {
+      reached = reached-more image s r k then room left e x answer after next (h .reached) is plays;
+      told =
+          rw (add-one k, text-next image s r k)
+          (told-then (h .told) (h .kept) (line-told image s r k then room left e x answer after next (h .reached) is plays));
       kept = omega (arith, h .kept);
-    }
+    })

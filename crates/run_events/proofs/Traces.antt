@@ -19,9 +19,7 @@ use Rattle.scheduler_answers.specs.Values.{tallyValues}
 use Rattle.scheduler.specs.Machine.{schedulerAfter}
 use Rattle.scheduler.specs.Promises.{Opens}
 use Rattle.scheduler.proofs.Follows.{all-faithful}
-use Rattle.text_lines.specs.declared.Row.{Row}
 use Rattle.text.specs.Text.{valuesText}
-use Rattle.text_lines.specs.Row.{rowText, Shows}
 use Rattle.text.specs.Text.{linesText}
 use Rattle.run_events.specs.Trace.{callsOf, traceText}
 use Rattle.run_events.specs.Tells.{eventsText}
@@ -57,12 +55,10 @@ module _ (image : List ℕ) (settings : Settings) (n : ℕ) (lent : Room) (sized
       )
 
   -- The tally line behind the events' lines.
-  module _ (then : Scheduler) (row : Row) (after : then ≡ schedulerAfter (x .scheduler) lent (callsOf image n)) (shows : Shows 5 (tallyValues (then .tallies)) row) where
-    pub trace-text : traceText image settings n ≡ eventsText image (x .scheduler) lent n ++ rowText row
-    trace-text =
-        opened
-        ∙ ap (λ (t : List ℕ). eventsText image (x .scheduler) lent n ++ t)
-        (ap (λ (s : Scheduler). valuesText (tallyValues (s .tallies))) (sym after) ∙ ap valuesText (sym (shows .is)))
+  pub trace-text : (then : Scheduler) → then ≡ schedulerAfter (x .scheduler) lent (callsOf image n)
+      → traceText image settings n ≡ eventsText image (x .scheduler) lent n ++ valuesText (tallyValues (then .tallies))
+  trace-text then after =
+      opened ∙ ap (λ (s : Scheduler). eventsText image (x .scheduler) lent n ++ valuesText (tallyValues (s .tallies))) (sym after)
 
 -- A waiting room of zeros.
 abbrev pub cleared : Room

@@ -7,8 +7,8 @@ use Rattle.block_record.specs.declared.Event.the-variants.{Unmarked, Marked, Ad
 use Rattle.run_events.specs.declared.Coming.{Coming}
 
 abbrev pub callOf : Event → Call
-callOf (Unmarked length place at) = arrive marking.Unmarked (length .0) place (at .0)
-callOf (Marked length place at) = arrive marking.Marked (length .0) place (at .0)
+callOf (Unmarked at length place) = arrive marking.Unmarked (length .0) place (at .0)
+callOf (Marked at length place) = arrive marking.Marked (length .0) place (at .0)
 callOf (Advance at) = advance (at .0)
 
 abbrev pub comingCall : Coming → Call

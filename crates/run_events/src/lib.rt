@@ -1,6 +1,6 @@
 // Events played on the scheduler, and the text of a trace told to a lent area; for the crate `run`. The waiting room is in its frame.
 ghost use mathlib.Core.Path.{_≡_};
-ghost use Prim.Native.Nat.{_+_, _*_, _/_, _≤_, _<_, min};
+ghost use Prim.Native.Nat.{_+_, _*_, _/_, _^_, _≤_, _<_, min};
 ghost use lib.ListN.{length};
 ghost use Rattle.rules.specs.Step.{advance};
 ghost use Rattle.scheduler.specs.Machine.{FromOpening};
@@ -18,8 +18,10 @@ use scheduler::advance;
 use scheduler::arrive;
 use scheduler::open;
 use scheduler_state::Scheduler;
-use text_lines::Row;
-use text_lines::tell_line;
+use scheduler_state::copied;
+use text_answers::tell_admission;
+use text_answers::tell_advance;
+use text_answers::tell_tallies;
 use units::Instant;
 use units::Marking;
 use units::Settings;
@@ -27,9 +29,9 @@ use units::Settings;
 // How many events a block has, unless it is the last.
 const BLOCK_EVENTS: usize = 31;
 
-// A line of the text, and the scheduler from there on.
+// The place behind a line of the text, and the scheduler from there on.
 pub struct Played {
-    pub row: Row,
+    pub next: usize,
     pub scheduler: Scheduler,
 }
 
@@ -39,28 +41,40 @@ pub enum Coming {
     Advance(Instant),
 }
 
-fn play_arrival(scheduler: Scheduler, packet: Packet, room: &mut Room) -> Played
-    requires { ⌜ FromOpening scheduler (now room) ⌝ }
-    ensures { λ r. ⌜ Plays scheduler (now (room .entry)) (arrivalOf packet) r (now (room .exit)) ⌝ }
+fn play_arrival(
+    scheduler: Scheduler,
+    packet: Packet,
+    room: &mut Room,
+    answer: &mut [u8],
+    next: usize,
+) -> Played
+    requires { ⌜ FromOpening scheduler (now room) × (next < 2 ^ 32) ⌝ }
+    ensures { λ r. ⌜ Plays (now (answer .entry)) next (now (answer .exit)) scheduler (now (room .entry)) (arrivalOf packet) r (now (room .exit)) ⌝ }
 {
     let arrived = arrive(scheduler, packet, room);
-    let answer = arrived.answer;
+    let admission = arrived.answer;
     let left = arrived.scheduler;
     Played {
-        row: text_answers::admission(answer),
+        next: tell_admission(answer, next, admission),
         scheduler: left,
     }
 }
 
-fn play_advance(scheduler: Scheduler, at: Instant, room: &Room) -> Played
-    requires { ⌜ FromOpening scheduler (now room) ⌝ }
-    ensures { λ r. ⌜ Plays scheduler (now (room .entry)) (advance (at .0)) r (now (room .entry)) ⌝ }
+fn play_advance(
+    scheduler: Scheduler,
+    at: Instant,
+    room: &Room,
+    answer: &mut [u8],
+    next: usize,
+) -> Played
+    requires { ⌜ FromOpening scheduler (now room) × (next < 2 ^ 32) ⌝ }
+    ensures { λ r. ⌜ Plays (now (answer .entry)) next (now (answer .exit)) scheduler (now (room .entry)) (advance (at .0)) r (now (room .entry)) ⌝ }
 {
     let advanced = advance(scheduler, at, room);
-    let answer = advanced.answer;
+    let outcome = advanced.answer;
     let left = advanced.scheduler;
     Played {
-        row: text_answers::advance(answer),
+        next: tell_advance(answer, next, outcome),
         scheduler: left,
     }
 }
@@ -70,13 +84,13 @@ fn call_of(event: Event) -> Coming
     ensures { λ r. ⌜ comingCall r ≡ callOf event ⌝ }
 {
     match event {
-        Event::Unmarked { length, place, at } => Coming::Arrival(Packet {
+        Event::Unmarked { at, length, place } => Coming::Arrival(Packet {
             marking: Marking::Unmarked,
             length,
             place,
             arrival: at,
         }),
-        Event::Marked { length, place, at } => Coming::Arrival(Packet {
+        Event::Marked { at, length, place } => Coming::Arrival(Packet {
             marking: Marking::Marked,
             length,
             place,
@@ -86,14 +100,20 @@ fn call_of(event: Event) -> Coming
     }
 }
 
-// Plays one event.
-pub fn play(event: Event, scheduler: Scheduler, room: &mut Room) -> Played
-    requires { ⌜ FromOpening scheduler (now room) ⌝ }
-    ensures { λ r. ⌜ Plays scheduler (now (room .entry)) (callOf event) r (now (room .exit)) ⌝ }
+// Plays one event, and tells its line.
+fn play(
+    event: Event,
+    scheduler: Scheduler,
+    room: &mut Room,
+    answer: &mut [u8],
+    next: usize,
+) -> Played
+    requires { ⌜ FromOpening scheduler (now room) × (next < 2 ^ 32) ⌝ }
+    ensures { λ r. ⌜ Plays (now (answer .entry)) next (now (answer .exit)) scheduler (now (room .entry)) (callOf event) r (now (room .exit)) ⌝ }
 {
     match call_of(event) {
-        Coming::Arrival(packet) => play_arrival(scheduler, packet, room),
-        Coming::Advance(at) => play_advance(scheduler, at, room),
+        Coming::Arrival(packet) => play_arrival(scheduler, packet, room, answer, next),
+        Coming::Advance(at) => play_advance(scheduler, at, room, answer, next),
     }
 }
 
@@ -137,11 +157,9 @@ fn tell_events(
         let end = block_end(k, events);
         while k < end {
             let event = event_in(image, block, k - first);
-            let played = play(event, then, room);
-            let row = played.row;
-            then = played.scheduler;
-            let values = row.values;
-            next = tell_line(answer, next, row.letter, &values, row.count);
+            let played = play(event, then, room, answer, next);
+            next = played.next;
+            then = copied(played.scheduler);
             k += 1;
         }
         block += 1;
@@ -164,7 +182,5 @@ pub fn tell_trace(image: &[u8], settings: Settings, events: usize, answer: &mut 
     let then = told.scheduler;
     let next = told.next;
     let tallies = then.tallies;
-    let row = text_answers::tallies(tallies);
-    let values = row.values;
-    tell_line(answer, next, row.letter, &values, row.count)
+    tell_tallies(answer, next, tallies)
 }

@@ -78,6 +78,33 @@ pub fn fresh(settings: Settings) -> Scheduler
     }
 }
 
+// The same scheduler, the parts with unused bytes copied number by number. A copy of the whole moves those bytes too, and the compiler keeps
+// them in memory: in a loop each turn then waits for the copy before.
+pub fn copied(scheduler: Scheduler) -> Scheduler
+    ensures { λ r. ⌜ r ≡ scheduler ⌝ }
+{
+    let settings = Settings {
+        alpha: Ticks(scheduler.settings.alpha.0),
+        ticks_per_byte: scheduler.settings.ticks_per_byte,
+    };
+    let then = scheduler.line;
+    let last = then.last;
+    let line = Line {
+        free: Instant(then.free.0),
+        last,
+    };
+    let clock = scheduler.clock;
+    let extra = scheduler.extra;
+    let tallies = scheduler.tallies;
+    Scheduler {
+        settings,
+        clock,
+        line,
+        extra,
+        tallies,
+    }
+}
+
 // Nothing is due at this instant.
 pub fn idle(scheduler: Scheduler, at: Instant) -> Scheduler
     ensures { λ r. ⌜ r ≡ idleAt scheduler at ⌝ }

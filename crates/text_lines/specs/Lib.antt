@@ -1,4 +1,3 @@
 pub mod Groups
 pub mod Put
-pub mod Row
 pub mod Told

@@ -1,14 +1,14 @@
-// Numbers in decimal, and lines of a letter and numbers, put into a lent area; pub functions serve the crates above.
+// Numbers in decimal, and lines of a letter and numbers, told to a lent area; pub functions serve the crates above.
 ghost use mathlib.Core.Path.{_≡_};
 ghost use mathlib.Core.List.{[], _∷_};
 ghost use Prim.Native.Nat.{_+_, _^_, _≤_, _<_};
-ghost use lib.ListN.{length, take};
-ghost use Rattle.text.specs.Text.{decimal, fieldText, fieldsText, lineText};
+ghost use lib.ListN.{length};
+ghost use Rattle.text.specs.Text.{decimal, fieldText, lineText};
 ghost use Rattle.text_lines.specs.Groups.{two, four, eight};
 ghost use Rattle.text_lines.specs.Put.{Put};
 ghost use Rattle.text_lines.specs.Told.{Told};
 
-pub fn put_byte(out: &mut [u8], at: usize, b: u8) -> usize
+fn put_byte(out: &mut [u8], at: usize, b: u8) -> usize
     requires { ⌜ at + 1 ≤ length (now out) ⌝ }
     ensures { λ r. ⌜ Put (now (out .entry)) at (b ∷ []) (now (out .exit)) r ⌝ }
 {
@@ -89,7 +89,7 @@ fn put_long(out: &mut [u8], at: usize, v: u64) -> usize
 }
 
 // Without loop or recursion, four digits at a time: most of a text is numbers.
-pub fn put_decimal(out: &mut [u8], at: usize, v: u64) -> usize
+fn put_decimal(out: &mut [u8], at: usize, v: u64) -> usize
     requires { ⌜ at + length (decimal v) ≤ length (now out) ⌝ }
     ensures { λ r. ⌜ Put (now (out .entry)) at (decimal v) (now (out .exit)) r ⌝ }
 {
@@ -100,7 +100,7 @@ pub fn put_decimal(out: &mut [u8], at: usize, v: u64) -> usize
 }
 
 // How many digits a number has.
-pub fn decimal_length(v: u64) -> usize
+fn decimal_length(v: u64) -> usize
     ensures { λ r. ⌜ r ≡ length (decimal v) ⌝ }
 {
     let mut rest = v;
@@ -112,14 +112,6 @@ pub fn decimal_length(v: u64) -> usize
     digits
 }
 
-// A line: its letter, and the first `count` of its values. The functions below take the values by reference: an array by value is copied
-// whole with each call.
-pub struct Row {
-    pub letter: u8,
-    pub count: usize,
-    pub values: [u64; 5],
-}
-
 fn put_field(out: &mut [u8], at: usize, v: u64) -> usize
     requires { ⌜ at + length (fieldText v) ≤ length (now out) ⌝ }
     ensures { λ r. ⌜ Put (now (out .entry)) at (fieldText v) (now (out .exit)) r ⌝ }
@@ -128,64 +120,100 @@ fn put_field(out: &mut [u8], at: usize, v: u64) -> usize
     put_decimal(out, next, v)
 }
 
-fn put_fields(out: &mut [u8], at: usize, values: &[u64], count: usize) -> usize
-    requires { ⌜ (count ≤ length (now values)) × (at + length (fieldsText (take count (now values))) ≤ length (now out)) ⌝ }
-    ensures { λ r. ⌜ Put (now (out .entry)) at (fieldsText (take count (now (values .entry)))) (now (out .exit)) r ⌝ }
+// A space and a number take at most so many bytes.
+const FIELD_MOST: usize = 21;
+
+// Tells a byte: puts it at `at` where the area reaches so far, and returns the place behind it in any case. So do the functions below.
+fn tell_byte(out: &mut [u8], at: usize, b: u8) -> usize
+    requires { ⌜ at < 2 ^ 33 ⌝ }
+    ensures { λ r. ⌜ Told (now (out .entry)) at (b ∷ []) (now (out .exit)) r ⌝ }
 {
-    let mut next = at;
-    let mut i = 0;
-    while i < count {
-        next = put_field(out, next, values[i]);
-        i += 1;
+    if out.len() <= at {
+        return at + 1;
     }
-    next
+    put_byte(out, at, b)
 }
 
-// Puts a line at `at`, and returns the place behind it.
-fn put_line(out: &mut [u8], at: usize, letter: u8, values: &[u64], count: usize) -> usize
-    requires { ⌜ (count ≤ length (now values)) × (at + length (lineText letter (take count (now values))) ≤ length (now out)) ⌝ }
-    ensures { λ r. ⌜ Put (now (out .entry)) at (lineText letter (take count (now (values .entry)))) (now (out .exit)) r ⌝ }
+// The end of a line.
+fn tell_end(out: &mut [u8], at: usize) -> usize
+    requires { ⌜ at < 2 ^ 33 ⌝ }
+    ensures { λ r. ⌜ Told (now (out .entry)) at (10 ∷ []) (now (out .exit)) r ⌝ }
 {
-    let numbers = put_byte(out, at, letter);
-    let end = put_fields(out, numbers, values, count);
-    put_byte(out, end, b'\n')
+    tell_byte(out, at, b'\n')
 }
 
-fn fields_length(values: &[u64], count: usize) -> usize
-    requires { ⌜ (count ≤ length (now values)) × (count ≤ 5) ⌝ }
-    ensures { λ r. ⌜ r ≡ length (fieldsText (take count (now (values .entry)))) ⌝ }
+// A space and a number. Their length is only worked out near the end of the area.
+fn tell_field(out: &mut [u8], at: usize, v: u64) -> usize
+    requires { ⌜ at < 2 ^ 33 ⌝ }
+    ensures { λ r. ⌜ Told (now (out .entry)) at (fieldText v) (now (out .exit)) r ⌝ }
 {
-    let mut total = 0;
-    let mut i = 0;
-    while i < count {
-        total = total + 1 + decimal_length(values[i]);
-        i += 1;
-    }
-    total
-}
-
-// How many bytes a line takes.
-pub fn line_length(values: &[u64], count: usize) -> usize
-    requires { ⌜ (count ≤ length (now values)) × (count ≤ 5) ⌝ }
-    ensures { λ r. ⌜ r ≡ length (fieldsText (take count (now (values .entry)))) + 2 ⌝ }
-{
-    fields_length(values, count) + 2
-}
-
-// No line is longer than this.
-const LINE_MOST: usize = 107;
-
-// Tells a line: puts it at `at` where there is room for it, and returns the place behind it in any case. Its length is only worked out near
-// the end of the area.
-pub fn tell_line(out: &mut [u8], at: usize, letter: u8, values: &[u64], count: usize) -> usize
-    requires { ⌜ (count ≤ length (now values)) × (count ≤ 5) × (at < 2 ^ 32) ⌝ }
-    ensures { λ r. ⌜ Told (now (out .entry)) at (lineText letter (take count (now (values .entry)))) (now (out .exit)) r ⌝ }
-{
-    if out.len() < at + LINE_MOST {
-        let behind = at + line_length(values, count);
+    if out.len() < at + FIELD_MOST {
+        let behind = at + 1 + decimal_length(v);
         if out.len() < behind {
             return behind;
         }
     }
-    put_line(out, at, letter, values, count)
+    put_field(out, at, v)
+}
+
+// Lines by how many numbers they have. The numbers come as arguments: an array would be written and read again for each line.
+pub fn tell_none(out: &mut [u8], at: usize, letter: u8) -> usize
+    requires { ⌜ at < 2 ^ 32 ⌝ }
+    ensures { λ r. ⌜ Told (now (out .entry)) at (lineText letter []) (now (out .exit)) r ⌝ }
+{
+    let end = tell_byte(out, at, letter);
+    tell_end(out, end)
+}
+
+pub fn tell_one(out: &mut [u8], at: usize, letter: u8, a: u64) -> usize
+    requires { ⌜ at < 2 ^ 32 ⌝ }
+    ensures { λ r. ⌜ Told (now (out .entry)) at (lineText letter (a ∷ [])) (now (out .exit)) r ⌝ }
+{
+    let first = tell_byte(out, at, letter);
+    let end = tell_field(out, first, a);
+    tell_end(out, end)
+}
+
+pub fn tell_two(out: &mut [u8], at: usize, letter: u8, a: u64, b: u64) -> usize
+    requires { ⌜ at < 2 ^ 32 ⌝ }
+    ensures { λ r. ⌜ Told (now (out .entry)) at (lineText letter (a ∷ b ∷ [])) (now (out .exit)) r ⌝ }
+{
+    let first = tell_byte(out, at, letter);
+    let second = tell_field(out, first, a);
+    let end = tell_field(out, second, b);
+    tell_end(out, end)
+}
+
+pub fn tell_four(out: &mut [u8], at: usize, letter: u8, a: u64, b: u64, c: u64, d: u64) -> usize
+    requires { ⌜ at < 2 ^ 32 ⌝ }
+    ensures { λ r. ⌜ Told (now (out .entry)) at (lineText letter (a ∷ b ∷ c ∷ d ∷ [])) (now (out .exit)) r ⌝ }
+{
+    let first = tell_byte(out, at, letter);
+    let second = tell_field(out, first, a);
+    let third = tell_field(out, second, b);
+    let fourth = tell_field(out, third, c);
+    let end = tell_field(out, fourth, d);
+    tell_end(out, end)
+}
+
+pub fn tell_five(
+    out: &mut [u8],
+    at: usize,
+    letter: u8,
+    a: u64,
+    b: u64,
+    c: u64,
+    d: u64,
+    e: u64,
+) -> usize
+    requires { ⌜ at < 2 ^ 32 ⌝ }
+    ensures { λ r. ⌜ Told (now (out .entry)) at (lineText letter (a ∷ b ∷ c ∷ d ∷ e ∷ [])) (now (out .exit)) r ⌝ }
+{
+    let first = tell_byte(out, at, letter);
+    let second = tell_field(out, first, a);
+    let third = tell_field(out, second, b);
+    let fourth = tell_field(out, third, c);
+    let fifth = tell_field(out, fourth, d);
+    let end = tell_field(out, fifth, e);
+    tell_end(out, end)
 }

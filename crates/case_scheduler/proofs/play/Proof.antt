@@ -60,8 +60,14 @@ loop-less c = search needs
 loop-again : tie.Need-loop-again Inv-loop μ-loop
 loop-again c = search needs
 
-tallies-requires : tie.Need-tallies-requires Inv-loop μ-loop
-tallies-requires c κs = search needs
+slice-aggregate-tell-tallies : tie.Need-slice-aggregate-tell-tallies Inv-loop μ-loop
+slice-aggregate-tell-tallies c = search needs
+
+tell-tallies-requires : tie.Need-tell-tallies-requires Inv-loop μ-loop
+tell-tallies-requires c κs = search needs
+
+slice-aggregate-print : tie.Need-slice-aggregate-print Inv-loop μ-loop
+slice-aggregate-print c = search needs
 
 print-requires : tie.Need-print-requires Inv-loop μ-loop
 print-requires c κs = search needs
@@ -89,6 +95,8 @@ play-spec =
     add-k
     loop-less
     loop-again
-    tallies-requires
+    slice-aggregate-tell-tallies
+    tell-tallies-requires
+    slice-aggregate-print
     print-requires
     returns)

@@ -1,6 +1,6 @@
 -- `run_events::play` meets its contract: an arrival or an advance, as the event says. Assumes nothing.
-use borrow.Author.Needs.{needs}
 use Rattle.run_events.proofs.Plays.{coming-plays}
+use borrow.Author.Needs.{needs}
 use Rattle.run_events.proofs.play.Statement.{statement}
 use Rattle.run_events.proofs.play.Tie as tie
 
@@ -19,15 +19,21 @@ enum-known-at c = search needs
 play-advance-requires : tie.Need-play-advance-requires
 play-advance-requires c κs = search needs
 
+same-length : tie.Need-same-length
+same-length c = search needs
+
 returns : tie.Need-returns
 returns c =
-    let called = c .before .before .before .before .before in
-    coming-plays (called .before .args .event) _ _ (called .call-of .ensures) (c .before .before .before .packet .given .1) (c .play-arrival .ensures)
+    let called = c .before .before .before .before .before .before .before .before in
+    coming-plays (called .before .before .args .event) _ _ (called .call-of .ensures) (c .before .before .before .before .before .before .packet .given .1) (c .before .before .play-arrival .ensures)
+
+same-length-2 : tie.Need-same-length-2
+same-length-2 c = search needs
 
 returns-2 : tie.Need-returns-2
 returns-2 c =
-    let called = c .before .before .before .before .before in
-    coming-plays (called .before .args .event) _ _ (called .call-of .ensures) (c .before .before .before .at .given .1) (c .play-advance .ensures)
+    let called = c .before .before .before .before .before .before .before .before in
+    coming-plays (called .before .before .args .event) _ _ (called .call-of .ensures) (c .before .before .before .before .before .before .at .given .1) (c .before .before .play-advance .ensures)
 
 pub play-spec : {M : Type 1} → statement M
 play-spec =
@@ -38,5 +44,7 @@ play-spec =
     play-arrival-requires
     enum-known-at
     play-advance-requires
+    same-length
     returns
+    same-length-2
     returns-2)

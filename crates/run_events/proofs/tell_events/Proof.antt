@@ -50,44 +50,37 @@ event-in-requires c κs =
     )
 
 play-requires : tie.Need-play-requires Inv-loop2 μ-loop2 Inv-loop μ-loop
-play-requires c κs = c .before .before .before .loop2 .inv .2 _ _ _ (c .before .before .before .before .before .before .loop .inv .1) .reached .kept
-
-slice-aggregate-tell-line : tie.Need-slice-aggregate-tell-line Inv-loop2 μ-loop2 Inv-loop μ-loop
-slice-aggregate-tell-line c = search (needs, c .before .before .before .before .before .play .ensures .line .five)
-
-tell-line-requires : tie.Need-tell-line-requires Inv-loop2 μ-loop2 Inv-loop μ-loop
-tell-line-requires c κs =
-    let start = c .before .before .before .before .before .before .before .before .before .before .before .before .before .before .before in
-    let l = c .before .before .before .before .before .before .before .before .before .loop2 in
-    let so = l .inv .2 _ _ _ (c .before .before .before .before .before .before .before .before .before .before .before .before .loop .inv .1) in
-    let few = c .before .before .before .before .before .play .ensures .line .few in
-    let five = c .before .before .before .before .before .play .ensures .line .five in
+play-requires c κs =
+    let start = c .before .before .before .before .before .before .before .before .before .before in
+    let l = c .before .before .before .before .loop2 in
+    let so = l .inv .2 _ _ _ (c .before .before .before .before .before .before .before .loop .inv .1) in
     let most = events-most (now (start .args .image)) (start .args .scheduler) (now (start .args .room)) (l .k) in (
-      omega arith,
-      omega arith,
-      omega (arith, so .told .place, c .before .before .before .before .before .before .before .before .loop2-test .taken, c .before .before .before .before .before .before .before .before .before .before .block-end .ensures, start .pre .1 .1),
+      so .reached .kept,
+      omega (arith, so .told .place, c .before .before .before .loop2-test .taken, c .before .before .before .before .before .block-end .ensures, start .pre .1 .1),
     )
 
+copied-requires : tie.Need-copied-requires Inv-loop2 μ-loop2 Inv-loop μ-loop
+copied-requires c κs = search needs
+
 add-k : tie.Need-add-k Inv-loop2 μ-loop2 Inv-loop μ-loop
-add-k c = omega (arith, c .before .before .before .before .before .before .before .before .before .before .before .loop2-test .taken, c .before .before .before .before .before .before .before .before .before .before .before .before .before .block-end .ensures, c .before .before .before .before .before .before .before .before .before .before .before .before .before .before .before .before .before .before .fits .events)
+add-k c = omega (arith, c .before .before .before .before .before .before .before .loop2-test .taken, c .before .before .before .before .before .before .before .before .before .block-end .ensures, c .before .before .before .before .before .before .before .before .before .before .before .before .before .before .fits .events)
 
 loop2-less : tie.Need-loop2-less Inv-loop2 μ-loop2 Inv-loop μ-loop
-loop2-less c = omega (arith, c .before .before .before .before .before .before .before .before .before .before .before .loop2-test .taken)
+loop2-less c = omega (arith, c .before .before .before .before .before .before .before .loop2-test .taken)
 
 loop2-again : tie.Need-loop2-again Inv-loop2 μ-loop2 Inv-loop μ-loop
 loop2-again c =
-    let p = c .before .before .before .before .before .before .before .before .play in
-    let e = c .before .before .before .before .before .before .before .before .before .before .event-in in
-    let l = c .before .before .before .before .before .before .before .before .before .before .before .before .loop2 in
-    let outer = c .before .before .before .before .before .before .before .before .before .before .before .before .before .before .before .loop in
-    let a = c .before .before .before .before .before .before .before .before .before .before .before .before .before .before .before .before .before .before .args in
-    let w = c .before .before .tell-line in
-    let place : 31 * outer .block + (l .k - outer .k) ≡ l .k = omega (arith, l .inv .0, outer .inv .0, c .before .before .before .before .before .before .before .before .before .before .before .before .before .before .loop-test .taken) in (
+    let p = c .before .before .before .play in
+    let e = c .before .before .before .before .before .before .event-in in
+    let l = c .before .before .before .before .before .before .before .before .loop2 in
+    let outer = c .before .before .before .before .before .before .before .before .before .before .before .loop in
+    let a = c .before .before .before .before .before .before .before .before .before .before .before .before .before .before .args in
+    let place : 31 * outer .block + (l .k - outer .k) ≡ l .k = omega (arith, l .inv .0, outer .inv .0, c .before .before .before .before .before .before .before .before .before .before .loop-test .taken) in (
       omega (arith, l .inv .0),
-      omega (arith, c .before .before .before .before .before .before .before .before .before .before .before .loop2-test .taken),
+      omega (arith, c .before .before .before .before .before .before .before .loop2-test .taken),
       λ s r before h.
-          so-far-more (now (a .image)) s r before (l .k) (l .then) (l .room) (p .last .1 .1 .0) _ _ _ _ (e .result) (p .result) (l .inv .2 s r before h)
-          (e .ensures ∙ ap (eventAt (now (a .image))) place) (p .ensures) (w .ensures) (w .kept .0),
+          so-far-more (now (a .image)) s r before (l .k) (l .then) (l .room) (p .last .1 .1 .0) (l .answer) _ (l .next) (e .result) (p .result) _
+          (l .inv .2 s r before h) (e .ensures ∙ ap (eventAt (now (a .image))) place) (p .ensures) (p .kept .1 .1 .1 .0) (c .copied .ensures),
     )
 
 add-block : tie.Need-add-block Inv-loop2 μ-loop2 Inv-loop μ-loop
@@ -126,8 +119,7 @@ tell-events-spec =
     sub-event-in
     event-in-requires
     play-requires
-    slice-aggregate-tell-line
-    tell-line-requires
+    copied-requires
     add-k
     loop2-less
     loop2-again

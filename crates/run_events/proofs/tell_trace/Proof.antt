@@ -20,40 +20,31 @@ tell-events-requires c κs =
     let o = c .before .before .before in
     (o .«open» .ensures .kept _ (o .before .empty .ensures .sized), o .before .before .before .before .pre)
 
-tallies-requires : tie.Need-tallies-requires
-tallies-requires c κs = search needs
-
-slice-aggregate-tell-line : tie.Need-slice-aggregate-tell-line
-slice-aggregate-tell-line c = search (needs, c .before .before .before .tallies2 .ensures .five)
-
-tell-line-requires : tie.Need-tell-line-requires
-tell-line-requires c κs =
-    let told = c .before .before .before .before .before .before .before .before in
+tell-tallies-requires : tie.Need-tell-tallies-requires
+tell-tallies-requires c κs =
+    let told = c .before .before .before .before .before in
     let opened = told .before .before .before .before in
     let lent = opened .before .empty in
     let start = opened .before .before .before .before in
     let a = start .args in
-    let w = told .tell-events .ensures in
     let o = opened .«open» in
-    let t = c .before .before .before .tallies2 .ensures in
     let within = events-within (now (a .image)) (a .settings) (a .events) (lent .result) (lent .ensures .sized) (o .result) (o .ensures) in
     let most = trace-most (now (a .image)) (a .settings) (a .events) in
-    (omega (arith, t .few, t .five), t .few, omega (arith, w .told .place, start .pre .1))
+    omega (arith, told .tell-events .ensures .told .place, start .pre .1)
 
 same-length : tie.Need-same-length
 same-length c = search needs
 
 returns : tie.Need-returns
 returns c =
-    let told = c .before .before .before .before .before .before .before .before .before .before .before in
+    let told = c .before .before .before .before .before .before .before .before in
     let opened = told .before .before .before .before in
     let lent = opened .before .empty in
     let a = opened .before .before .before .before .args in
     let w = told .tell-events in
     let o = opened .«open» in
-    let t = c .before .before .before .before .before .before .tallies2 in
-    rw (trace-text (now (a .image)) (a .settings) (a .events) (lent .result) (lent .ensures .sized) (o .result) (o .ensures) (w .result .scheduler) (t .result) (w .ensures .scheduler) (t .ensures))
-    (told-then {xs = eventsText (now (a .image)) (o .result .scheduler) (lent .result) (a .events)} (w .ensures .told) (w .kept .1 .1 .1 .0) (c .before .before .tell-line .ensures))
+    rw (trace-text (now (a .image)) (a .settings) (a .events) (lent .result) (lent .ensures .sized) (o .result) (o .ensures) (w .result .scheduler) (w .ensures .scheduler))
+    (told-then {xs = eventsText (now (a .image)) (o .result .scheduler) (lent .result) (a .events)} (w .ensures .told) (w .kept .1 .1 .1 .0) (c .before .before .tell-tallies .ensures))
 
 pub tell-trace-spec : {M : Type 1} → statement M
 tell-trace-spec =
@@ -62,8 +53,6 @@ tell-trace-spec =
     empty-requires
     open-requires
     tell-events-requires
-    tallies-requires
-    slice-aggregate-tell-line
-    tell-line-requires
+    tell-tallies-requires
     same-length
     returns)
