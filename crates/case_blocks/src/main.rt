@@ -35,11 +35,13 @@ fn show(value: u16) {
     word(b"\n");
 }
 
-// RFC 1071's own examples: the sum of section 3 in its two byte orders, an odd last byte as the high half of a word, and checks.
+// RFC 1071's own examples: the sum of section 3 in its two byte orders, an odd last byte as the high half of a word, and checks;
+// and a sum that one fold would leave a carry in.
 fn sums() {
     show(sum(b"\x00\x01\xf2\x03\xf4\xf5\xf6\xf7"));
     show(sum(b"\x01\x00\x03\xf2\xf5\xf4\xf7\xf6"));
     show(sum(b"\x00\x01\xf2"));
+    show(sum(b"\xff\xff\xff\xff\x01\x00"));
     show(check_of(b"\xff\xff\x00\x01\xf2\x03\xf4\xf5\xf6\xf7"));
     show(check_of(b"\x00\x00\xff\xff"));
 }
