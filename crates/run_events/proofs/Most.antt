@@ -68,14 +68,18 @@ events-most image s r (suc k) =
 line-short : (w : Settings) (n : ℕ) (a : Answer) → n ≤ 1984 → InRange w → AnswerBounds (termsOf w) n a → length (valuesText (lineOf a)) ≤ lineMost
 line-short w n (admitted (unmarked p) e) few r h = omega (arith, line-within 65 (4 ∷ 7 ∷ []) (p .number ∷ e ∷ []) (omega arith))
 line-short w n (admitted (marked m) e) few r h = omega (arith, line-within 77 (4 ∷ []) (m .number ∷ []) (omega arith))
-line-short w n (started x) few r h = line-within 83 (4 ∷ 16 ∷ 7 ∷ 2 ∷ []) (numberOf x ∷ x .at ∷ x .extra ∷ x .dropped ∷ []) (omega arith)
+line-short w n (started x) few r h =
+    omega (arith, line-within 83 (4 ∷ 16 ∷ 7 ∷ 2 ∷ []) (numberOf x ∷ x .at ∷ x .extra ∷ x .dropped ∷ []) (omega arith))
 line-short w n nothingDue few r h = omega arith
 line-short w n (refused k) few r h = omega (arith, line-within 82 (1 ∷ []) (k ∷ []) (omega arith))
 
 tally-short : (n : ℕ) (k : Tallies) → n ≤ 1984 → TallyBounds n k → length (valuesText (tallyLine k)) ≤ tallyMost
 tally-short n k few h =
-    line-within 84 (4 ∷ 4 ∷ 4 ∷ 4 ∷ 4 ∷ [])
-    (k .unmarkedAdmitted ∷ k .markedAdmitted ∷ k .unmarkedStarted ∷ k .markedStarted ∷ k .markedDropped ∷ []) (omega arith)
+    omega (
+      arith,
+      line-within 84 (4 ∷ 4 ∷ 4 ∷ 4 ∷ 4 ∷ [])
+          (k .unmarkedAdmitted ∷ k .markedAdmitted ∷ k .unmarkedStarted ∷ k .markedStarted ∷ k .markedDropped ∷ []) (omega arith),
+    )
 
 module _ (image : List ℕ) (settings : Settings) where
   abbrev σ : Terms
