@@ -26,17 +26,21 @@ use Rattle.rules.proofs.Served.{chosen-split, admissions-joined, admiss
 
 module _ (σ : Terms) where
   -- No more packets are admitted than there are calls.
-  one-call : {c : Call} {o : Outcome} (s z : Line) (n : ℕ) → Move σ s c o → admissions z ≤ admissions (o .line) + n → admissions z ≤ admissions s + suc n
+  one-call : {c : Call} {o : Outcome} (s z : Line) (n : ℕ) → Move σ s c o → admissions z ≤ admissions (o .line) + n
+      → admissions z ≤ admissions s + suc n
   one-call s z n (refuses k) h = omega arith
   one-call s z n (admits {μ = μ} {len = len} {place = place} {t = t} a) h = omega (arith, admissions-joined σ s (newcomer σ s μ len place t) t)
   one-call s z n (idles a k) h = omega arith
   one-call s z n (decides {t = t} {c = c} a b x) h = omega (arith, admissions-decided σ s (due s) (c .what) (c .dropped) (c .rest) t)
 
+  abbrev Few : Unit {0} → Line → List Call → List Answer → Line → Type 0
+  Few i s cs rs z = admissions z ≤ admissions s + length cs
+
   pub admitted-few : (cs : List Call) → admissions (after σ fresh cs) ≤ length cs
   admitted-few cs =
       let few : admissions (after σ fresh cs) ≤ 0 + length cs =
-      induct σ (λ (i : Unit {0}) (s : Line). Unit {0}) (λ (i : Unit {0}) (s : Line) (cs : List Call) (rs : List Answer) (z : Line). admissions z ≤ admissions s + length cs)
-      (λ i s h. omega arith) (λ i s z c o cs rs h m go. one-call s z (length cs) m (go tt tt)) cs tt fresh tt in
+      induct σ (λ (i : Unit {0}) (s : Line). Unit {0}) Few (λ i s h. omega arith)
+      (λ i s z c o cs rs h m go. one-call s z (length cs) m (go tt tt)) cs tt fresh tt in
       omega arith
 
   -- No waiting packet has a number above that of the last admission.
@@ -47,7 +51,8 @@ module _ (σ : Terms) where
   new-number s Unmarked len place t = refl
   new-number s Marked len place t = refl
 
-  numbered : {c : Call} {o : Outcome} (s : Line) → Each (NumberMost (admissions s)) (s .queue) → Move σ s c o → Each (NumberMost (admissions (o .line))) (o .line .queue)
+  numbered : {c : Call} {o : Outcome} (s : Line) → Each (NumberMost (admissions s)) (s .queue) → Move σ s c o
+      → Each (NumberMost (admissions (o .line))) (o .line .queue)
   numbered s h (refuses k) = h
   numbered s h (admits {μ = μ} {len = len} {place = place} {t = t} a) =
       let x : Waiting = newcomer σ s μ len place t in
@@ -108,8 +113,9 @@ module _ (σ : Terms) where
         length-append (c .dropped) (markedOf (c .what ∷ c .rest)),
       )
 
-  bounded : {c : Call} {o : Outcome} (n e : ℕ) (s : Line) → admissions s ≤ n → Each (NumberMost (admissions s)) (s .queue) → length (markedOf (s .queue)) ≤ σ .room
-      → Waits σ e s → ((k : ℕ) → o .answer ≡ refused k → k ≤ 7) → Move σ s c o → AnswerBounds σ (suc n) (o .answer)
+  bounded : {c : Call} {o : Outcome} (n e : ℕ) (s : Line) → admissions s ≤ n → Each (NumberMost (admissions s)) (s .queue)
+      → length (markedOf (s .queue)) ≤ σ .room → Waits σ e s → ((k : ℕ) → o .answer ≡ refused k → k ≤ 7) → Move σ s c o
+      → AnswerBounds σ (suc n) (o .answer)
   bounded n e s few h room w r (refuses k) = r k refl
   bounded n e s few h room w r (admits {μ = μ} {len = len} {place = place} {t = t} a) =
       let x : Waiting = newcomer σ s μ len place t in
