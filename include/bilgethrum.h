@@ -32,9 +32,10 @@ extern "C" {
 #endif
 
 /* The version of these declarations: the first number grows where a host has to be
- * changed or compiled anew, the second where something is added. */
+ * changed or compiled anew, the second where something is added, or less is asked of
+ * a host. */
 #define BILGETHRUM_VERSION_MAJOR 1
-#define BILGETHRUM_VERSION_MINOR 0
+#define BILGETHRUM_VERSION_MINOR 1
 
 #define BILGETHRUM_STACK_BYTES 1024
 #define BILGETHRUM_RUN_STACK_BYTES 6144
@@ -199,13 +200,18 @@ uint32_t bilgethrum_view_refusal(const uint8_t *unmarked, size_t unmarked_len,
 /* ---- The whole run: trace image in, text out ---- */
 
 /* An answer area of this many bytes is enough for every image, and lets the run play
- * each event once; with a smaller area it first measures the text.
+ * each event once.  For fewer events less is enough: only an area with less than
+ * BILGETHRUM_LONGEST_LINE for each event and BILGETHRUM_TALLY_LINE more makes the run
+ * measure the text first, and play each event twice.
  *
- * An event's line has a letter, at most four numbers of at most 20 digits with a
- * space before each, and a line end:  1 + 4*(1+20) + 1 = 86.
- * The tally line has five numbers:    1 + 5*(1+20) + 1 = 107. */
-#define BILGETHRUM_LONGEST_LINE 86
-#define BILGETHRUM_TALLY_LINE 107
+ * No event's line is longer than one of a start: a letter, the packet's number, of at
+ * most 1,984, the start, at most 10^15, the extra delay, at most 1,000,000, the packets
+ * dropped, at most 64, a space before each, and a line end:
+ *     1 + (1+4) + (1+16) + (1+7) + (1+2) + 1 = 35.
+ * The tally line has five counts, each at most 1,984:  1 + 5*(1+4) + 1 = 27.
+ * A refused image has one line, which is shorter. */
+#define BILGETHRUM_LONGEST_LINE 35
+#define BILGETHRUM_TALLY_LINE 27
 #define BILGETHRUM_ANSWER_ENOUGH \
     (BILGETHRUM_MOST_EVENTS * BILGETHRUM_LONGEST_LINE + BILGETHRUM_TALLY_LINE)
 

@@ -3,7 +3,7 @@ use libc::STDOUT_FILENO;
 
 const IMAGE_MOST: usize = 33280;
 
-const TEXT_MOST: usize = 170731;
+const TEXT_MOST: usize = 69467;
 
 fn tell(image: &[u8]) {
     let mut answer = [0u8; TEXT_MOST];

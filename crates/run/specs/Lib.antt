@@ -1,3 +1,4 @@
 pub mod Text
+pub mod Most
 pub mod Ran
 pub mod Unique

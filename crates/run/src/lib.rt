@@ -13,9 +13,9 @@ use text_answers::tell_refused_image;
 use units::Settings;
 
 // No event's line is longer than this, nor the tally line than that.
-const LINE_MOST: usize = 86;
+const LINE_MOST: usize = 35;
 
-const TALLY_MOST: usize = 107;
+const TALLY_MOST: usize = 27;
 
 // The number returned where the area is shorter than the text.
 const SHORT: i64 = -32;

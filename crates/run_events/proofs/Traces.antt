@@ -1,16 +1,14 @@
 -- The text of a trace: the lines that the scheduler's answers give, and the tally line. Assumes nothing.
-use mathlib.Core.Path.{_≡_, refl, sym, ap, _∙_}
+use mathlib.Core.Path.{_≡_, sym, ap, _∙_}
 use mathlib.Core.List.{List, _++_, map}
-use Prim.Native.Nat.{ℕ, _+_, _≤_}
-use native.Mathlib.Omega.{arith}
-use lib.ListN.{length, replicate, length-append}
+use Prim.Native.Nat.{ℕ}
 use Rattle.units.specs.declared.Settings.{Settings}
 use Rattle.rules.specs.Terms.{termsOf}
 use Rattle.rules.specs.Line.{fresh}
 use Rattle.rules.specs.Step.{after, answers}
 use Rattle.rules.specs.Printed.{lineOf, tallyLine}
 use Rattle.rules.specs.Open.{opening}
-use Rattle.room.specs.Room.{Room, roomWords}
+use Rattle.room.specs.Room.{Room}
 use Rattle.room.specs.Held.{Sized}
 use Rattle.scheduler_state.specs.declared.Scheduler.{Scheduler}
 use Rattle.scheduler_answers.specs.declared.Opened.{Opened}
@@ -19,14 +17,13 @@ use Rattle.scheduler_answers.specs.Values.{tallyValues}
 use Rattle.scheduler.specs.Machine.{schedulerAfter}
 use Rattle.scheduler.specs.Promises.{Opens}
 use Rattle.scheduler.proofs.Follows.{all-faithful}
-use Rattle.text.specs.Text.{valuesText}
-use Rattle.text.specs.Text.{linesText}
+use Rattle.text.specs.Text.{valuesText, linesText}
 use Rattle.run_events.specs.Trace.{callsOf, traceText}
 use Rattle.run_events.specs.Tells.{eventsText}
 use Rattle.text.proofs.Lines.{lines-more}
 
 module _ (image : List ℕ) (settings : Settings) (n : ℕ) (lent : Room) (sized : Sized lent) where
-  pub by-code : traceText image settings n
+  by-code : traceText image settings n
       ≡ eventsText image (openOf settings .scheduler) lent n
       ++ valuesText (tallyValues (schedulerAfter (openOf settings .scheduler) lent (callsOf image n) .tallies))
   by-code =
@@ -46,23 +43,8 @@ module _ (image : List ℕ) (settings : Settings) (n : ℕ) (lent : Room) (sized
       ∙ ap (λ (y : Opened). eventsText image (y .scheduler) lent n ++ valuesText (tallyValues (schedulerAfter (y .scheduler) lent (callsOf image n) .tallies)))
       (sym (opens .value))
 
-  pub events-within : length (eventsText image (x .scheduler) lent n) ≤ length (traceText image settings n)
-  events-within =
-      omega (
-        arith,
-        ap length opened,
-        length-append (eventsText image (x .scheduler) lent n) (valuesText (tallyValues (schedulerAfter (x .scheduler) lent (callsOf image n) .tallies))),
-      )
-
   -- The tally line behind the events' lines.
   pub trace-text : (then : Scheduler) → then ≡ schedulerAfter (x .scheduler) lent (callsOf image n)
       → traceText image settings n ≡ eventsText image (x .scheduler) lent n ++ valuesText (tallyValues (then .tallies))
   trace-text then after =
       opened ∙ ap (λ (s : Scheduler). eventsText image (x .scheduler) lent n ++ valuesText (tallyValues (s .tallies))) (sym after)
-
--- A waiting room of zeros.
-abbrev pub cleared : Room
-cleared = replicate roomWords 0
-
-pub cleared-sized : Sized cleared
-cleared-sized = refl

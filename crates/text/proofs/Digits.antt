@@ -7,7 +7,7 @@ use native.Mathlib.Nat.{pow-suc}
 use native.Mathlib.Omega.{arith}
 use lib.Dec.{ltb}
 use lib.ListN.{length, length-append}
-use borrow.Author.Tests.{lt-ltb, le-ltb}
+use borrow.Author.Tests.{lt-ltb, le-ltb, ltb-false}
 use Rattle.text.specs.Text.{digit, digitsIn, decimal}
 
 -- Room for one digit more than there can be changes nothing.
@@ -44,6 +44,21 @@ digits-most zero v = omega arith
 digits-most (suc f) v =
     choose (λ (l : List ℕ). length l ≤ suc f) (ltb v 10) (λ e. omega arith)
     (λ e. omega (arith, digits-most f (v / 10), length-append (digitsIn f (v / 10)) (digit (v % 10) ∷ [])))
+
+-- A number below 10^k has at most k digits, 0 one.
+digits-within : (f k v : ℕ) → v < 10 ^ suc k → length (digitsIn f v) ≤ suc k
+unfolding digitsIn
+digits-within zero k v h = omega arith
+digits-within (suc f) zero v h =
+    choose (λ (l : List ℕ). length l ≤ 1) (ltb v 10) (λ e. omega arith) (λ e. absurd (omega (arith, ltb-false)))
+digits-within (suc f) (suc k) v h =
+    let h′ : v < 10 ^ suc k * 10 = subst (λ (n : ℕ). v < n) (pow-suc 10 (suc k)) h in
+    choose (λ (l : List ℕ). length l ≤ suc (suc k)) (ltb v 10) (λ e. omega arith)
+    (λ e. omega (arith, digits-within f k (v / 10) (omega arith), length-append (digitsIn f (v / 10)) (digit (v % 10) ∷ [])))
+
+pub decimal-within : (k v : ℕ) → v < 10 ^ suc k → length (decimal v) ≤ suc k
+unfolding decimal
+decimal-within k v h = digits-within 20 k v h
 
 pub decimal-most : (v : ℕ) → length (decimal v) ≤ 20
 unfolding decimal

@@ -6,8 +6,7 @@ use libc::STDOUT_FILENO;
 // One byte more than the largest image is enough to know that an image is too long.
 const IMAGE_MOST: usize = 32769;
 
-// Enough for any text, and little of a stack: 1,984 times 35 bytes, as no event's line is longer than
-// `S 1984 1000000000000000 1000000 64`, and 27 for the tally line.
+// No text is longer, as `TextMost` of the crate `run` says.
 const TEXT_MOST: usize = 69467;
 
 // Whether the input broke off before its end, of which `got` bytes came.

@@ -21,16 +21,18 @@ tell-trace-requires c κs = search needs
 
 as-result-requires : tie.Need-as-result-requires
 as-result-requires c κs =
-    let a = c .before .before .before .before .before .before .before .args in
-    omega (arith, trace-most (now (a .image)) (a .settings) (a .events), c .before .before .tell-trace .ensures .place, c .before .before .before .before .before .before .before .pre .1)
+    let start = c .before .before .before .before .before .before .before in
+    let a = start .args in
+    omega (arith, trace-most (now (a .image)) (a .settings) (a .events) (start .pre .1), c .before .before .tell-trace .ensures .place, start .pre .1)
 
 same-length : tie.Need-same-length
 same-length c = search needs
 
 returns : tie.Need-returns
 returns c =
-    let a = c .before .before .before .before .before .before .before .before .args in
-    answers-told (omega (arith, trace-most (now (a .image)) (a .settings) (a .events), c .before .before .before .before .before .if1 .taken)) (c .before .before .before .tell-trace .ensures)
+    let start = c .before .before .before .before .before .before .before .before in
+    let a = start .args in
+    answers-told (omega (arith, trace-most (now (a .image)) (a .settings) (a .events) (start .pre .1), c .before .before .before .before .before .if1 .taken)) (c .before .before .before .tell-trace .ensures)
     (toZ-ofZ {w = w64} (record { sfits = c .as-result .ok }) ∙ c .as-result .ensures)
 
 slice-aggregate-tell-trace : tie.Need-slice-aggregate-tell-trace
@@ -47,8 +49,9 @@ tell-trace-requires-3 c κs = search needs
 
 as-result-requires-2 : tie.Need-as-result-requires-2
 as-result-requires-2 c κs =
-    let a = c .before .before .before .before .before .before .before .before .before .before .before .args in
-    omega (arith, trace-most (now (a .image)) (a .settings) (a .events), c .before .before .tell-trace3 .ensures .place, c .before .before .before .before .before .before .before .before .before .before .before .pre .1)
+    let start = c .before .before .before .before .before .before .before .before .before .before .before in
+    let a = start .args in
+    omega (arith, trace-most (now (a .image)) (a .settings) (a .events) (start .pre .1), c .before .before .tell-trace3 .ensures .place, start .pre .1)
 
 same-length-2 : tie.Need-same-length-2
 same-length-2 c = search needs

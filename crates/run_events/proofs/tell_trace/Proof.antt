@@ -3,8 +3,8 @@ use native.Mathlib.Omega.{arith}
 use denote.Ref.{now}
 use Rattle.text_lines.proofs.Tells.{told-then}
 use Rattle.run_events.specs.Tells.{eventsText}
-use Rattle.run_events.proofs.Traces.{events-within, trace-text}
-use Rattle.run_events.proofs.Most.{trace-most}
+use Rattle.run_events.proofs.Traces.{trace-text}
+use Rattle.run_events.proofs.Most.{events-most}
 use borrow.Author.Needs.{needs}
 use Rattle.run_events.proofs.tell_trace.Statement.{statement}
 use Rattle.run_events.proofs.tell_trace.Tie as tie
@@ -28,8 +28,7 @@ tell-tallies-requires c κs =
     let start = opened .before .before .before .before in
     let a = start .args in
     let o = opened .«open» in
-    let within = events-within (now (a .image)) (a .settings) (a .events) (lent .result) (lent .ensures .sized) (o .result) (o .ensures) in
-    let most = trace-most (now (a .image)) (a .settings) (a .events) in
+    let most = events-most (now (a .image)) (o .result .scheduler) (lent .result) (a .events) in
     omega (arith, told .tell-events .ensures .told .place, start .pre .1)
 
 same-length : tie.Need-same-length
