@@ -74,12 +74,22 @@ static inline bilgethrum_arrival baseline_host_arrive(bilgethrum_line *words,
     return (bilgethrum_arrival){ .number = line->admitted, .extra = extra };
 }
 
-static inline bilgethrum_packet baseline_host_packet(const struct baseline_host *host,
-                                                     uint32_t number)
+/* Member by member, since a whole literal would be cleared first. */
+static inline bilgethrum_decision baseline_host_decision(const struct baseline_host *host,
+                                                         struct baseline_start start)
 {
-    const struct baseline_packet *slot = &host->packets[number % BASELINE_RING];
-    return (bilgethrum_packet){ .arrival = slot->arrival, .length = slot->length,
-                                .place = slot->place, .marked = slot->marked };
+    const struct baseline_packet *packet = &host->packets[start.number % BASELINE_RING];
+    bilgethrum_decision decision;
+    decision.refusal = BILGETHRUM_NOT_REFUSED;
+    decision.number = start.number;
+    decision.start = start.instant;
+    decision.extra = start.extra_delay;
+    decision.dropped = start.dropped;
+    decision.packet.arrival = packet->arrival;
+    decision.packet.length = packet->length;
+    decision.packet.place = packet->place;
+    decision.packet.marked = packet->marked;
+    return decision;
 }
 
 static inline bilgethrum_decision baseline_host_advance(bilgethrum_line *words, uint64_t at)
@@ -92,9 +102,7 @@ static inline bilgethrum_decision baseline_host_advance(bilgethrum_line *words, 
     int refusal = baseline_advance(&host->line, at, &decided, &start);
     if (refusal != 0 || !decided)
         return (bilgethrum_decision){ .refusal = (uint32_t)refusal };
-    return (bilgethrum_decision){ .number = start.number, .start = start.instant,
-                                  .extra = start.extra_delay, .dropped = start.dropped,
-                                  .packet = baseline_host_packet(host, start.number) };
+    return baseline_host_decision(host, start);
 }
 
 static inline bilgethrum_tallies baseline_host_tally(const bilgethrum_line *words)

@@ -27,24 +27,27 @@ struct baseline_unmarked {
 
 /* Admitted packets are numbered without gaps, so those that wait are gone + 1 to admitted,
  * the number tells a packet's slot in a ring, and the marked ones ahead of an unmarked one
- * are counted by subtraction. */
+ * are counted by subtraction.
+ *
+ * No two numbers that one call changes stand side by side: the compiler would join them in a
+ * wide register first, and the next call would wait longer for them. */
 struct baseline_line {
     baseline_ticks clock;
-    baseline_ticks free;        /* when the line falls free; while packets wait: the due instant */
-    baseline_ticks due;         /* free while packets wait, else BASELINE_NEVER */
-    baseline_ticks spare;       /* alpha less the extra delay of the first waiting unmarked packet,
-                                   or ample where none waits */
-    baseline_ticks bound;       /* what a new extra delay is at most: that of the last unmarked
-                                   packet, or more where a marked one started since */
     uint32_t alpha;
     uint32_t ticks_per_byte;
-    uint32_t unmarked_work;     /* transmission times of all waiting unmarked packets */
-    uint32_t gone;              /* the last number that started or was dropped */
-    uint32_t admitted;
-    uint32_t first_unmarked;    /* the number of the first waiting unmarked packet, or 0 */
+    baseline_ticks free;        /* when the line falls free; while packets wait: the due instant */
     uint32_t unmarked_started;
-    uint32_t unmarked_admitted;
     uint32_t marked_dropped;
+    baseline_ticks due;         /* free while packets wait, else BASELINE_NEVER */
+    uint32_t first_unmarked;    /* the number of the first waiting unmarked packet, or 0 */
+    uint32_t admitted;
+    baseline_ticks spare;       /* alpha less the extra delay of the first waiting unmarked packet,
+                                   or ample where none waits */
+    uint32_t gone;              /* the last number that started or was dropped */
+    uint32_t unmarked_admitted;
+    baseline_ticks bound;       /* what a new extra delay is at most: that of the last unmarked
+                                   packet, or more where a marked one started since */
+    uint32_t unmarked_work;     /* transmission times of all waiting unmarked packets */
     uint32_t time[BASELINE_RING];                       /* by number */
     struct baseline_unmarked unmarked[BASELINE_ROOM];   /* by how many unmarked came before */
 };
