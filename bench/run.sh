@@ -13,6 +13,7 @@ cd "$(dirname "$0")/.."
 . compare/toolchain.sh
 
 layouts=${2:-5}
+[ "$layouts" -gt 0 ] || missing "a number of layouts above 0"
 parts=target/compare/bench
 rm -rf "$parts"
 mkdir -p "$parts"
