@@ -110,8 +110,8 @@ static void count_rooms(struct replay *replay, bool *was_refused, int refusal,
     situations[refused] += refusal == 6;
     situations[again] += refusal == 0 && *was_refused;
     situations[BOTH_ROOMS_FULL] += refusal == 0
-        && baseline_ring_count(&replay->line.unmarked) == BASELINE_ROOM
-        && baseline_ring_count(&replay->line.marked) == BASELINE_ROOM;
+        && baseline_unmarked_waiting(&replay->line) == BASELINE_ROOM
+        && baseline_marked_waiting(&replay->line) == BASELINE_ROOM;
     if (refusal == 0 || refusal == 6)
         *was_refused = refusal == 6;
 }
@@ -127,7 +127,7 @@ static void replay_unmarked(struct replay *replay, const struct event *event)
     if (refusal != 0)
         return;
     uint64_t rest = before.free > event->instant ? before.free - event->instant : 0;
-    bool none_waited = baseline_ring_count(&before.unmarked) == 0;
+    bool none_waited = baseline_unmarked_waiting(&before) == 0;
     bool below = extra < rest + before.unmarked_work;
     situations[EXTRA_FROM_PREDECESSOR] += below && !none_waited;
     situations[PREDECESSOR_ON_LINE] += below && none_waited;
@@ -135,7 +135,7 @@ static void replay_unmarked(struct replay *replay, const struct event *event)
                                         && before.free == event->instant;
     situations[AFTER_MARKED_START_AT_DEPARTURE] += none_waited && before.unmarked_started != 0
         && replay->last_was_marked && replay->last_start == event->instant;
-    situations[UNMARKED_ROOM_FULL] += baseline_ring_count(&line->unmarked) == BASELINE_ROOM;
+    situations[UNMARKED_ROOM_FULL] += baseline_unmarked_waiting(line) == BASELINE_ROOM;
     situations[LONGEST_TIME] += event->length * line->ticks_per_byte == 131072;
     situations[LAST_INSTANT] += event->instant == MOST_INSTANT;
 }
@@ -147,19 +147,17 @@ static void replay_marked(struct replay *replay, const struct event *event)
     count_rooms(replay, &replay->marked_was_refused, refusal, MARKED_REFUSED_6,
                 MARKED_AFTER_FULL);
     if (refusal == 0)
-        situations[MARKED_ROOM_FULL] += baseline_ring_count(&line->marked) == BASELINE_ROOM;
+        situations[MARKED_ROOM_FULL] += baseline_marked_waiting(line) == BASELINE_ROOM;
 }
 
 /* A marked packet at the head with unmarked ones waiting: how near alpha it comes. */
 static void count_nearness(const struct baseline_line *before, const struct baseline_start *start)
 {
-    if (baseline_ring_count(&before->unmarked) == 0
-        || baseline_first_unmarked(before) == before->gone + 1)
+    if (before->first_unmarked == 0 || before->first_unmarked == before->gone + 1)
         return;
-    uint32_t reached = before->first_extra
-                       + before->marked.time[before->marked.first % BASELINE_ROOM];
-    situations[TIE_AT_ALPHA] += reached == before->alpha && start->dropped == 0;
-    situations[ONE_ABOVE_ALPHA] += reached == before->alpha + 1 && start->dropped != 0;
+    uint32_t time = baseline_time(before, before->gone + 1);
+    situations[TIE_AT_ALPHA] += time == before->spare && start->dropped == 0;
+    situations[ONE_ABOVE_ALPHA] += time == before->spare + 1 && start->dropped != 0;
 }
 
 static void replay_advance(struct replay *replay, const struct event *event)
@@ -175,7 +173,7 @@ static void replay_advance(struct replay *replay, const struct event *event)
         return;
     count_nearness(&before, &start);
     replay->last_start = start.instant;
-    replay->last_was_marked = !line->unmarked_on_line;
+    replay->last_was_marked = start.marked;
     situations[ALPHA_EXTRA] += start.extra_delay == line->alpha;
     situations[START_BEFORE_CLOCK] += start.instant < event->instant;
 }

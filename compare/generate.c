@@ -126,7 +126,7 @@ static uint64_t pick_unmarked_length(struct random *random)
 static uint64_t pick_marked_length(struct random *random, const struct baseline_line *line)
 {
     uint64_t longest = line->alpha / line->ticks_per_byte;
-    uint64_t room = less(line->alpha, line->last_extra) / line->ticks_per_byte;
+    uint64_t room = less(line->alpha, line->bound) / line->ticks_per_byte;
     switch (random_below(random, 12)) {
     case 0:
         return longest + 1;
@@ -154,19 +154,19 @@ static uint64_t in_length_range(uint64_t length)
  * some of the marked packets ahead of it just reach alpha; one earlier passes it. */
 static uint64_t tie_instant(struct random *random, const struct baseline_line *line)
 {
-    uint32_t marked = baseline_ring_count(&line->marked);
+    uint32_t marked = baseline_marked_waiting(line);
     uint64_t starts = random_between(random, 1, smaller(marked, 4));
     uint64_t times = 0;
     for (uint32_t i = 0; i < starts; i++)
-        times += line->marked.time[(line->marked.first + i) % BASELINE_ROOM];
+        times += baseline_time(line, line->gone + 1 + i);
     return less(line->free, less(line->alpha, times) + random_below(random, 2));
 }
 
 static uint64_t pick_unmarked_instant(struct random *random, const struct mood *mood,
                                       const struct baseline_line *line)
 {
-    bool first = baseline_ring_count(&line->unmarked) == 0;
-    if (first && baseline_ring_count(&line->marked) != 0 && random_percent(random, 60)) {
+    bool first = baseline_unmarked_waiting(line) == 0;
+    if (first && baseline_marked_waiting(line) != 0 && random_percent(random, 60)) {
         uint64_t instant = tie_instant(random, line);
         if (instant >= line->clock)
             return instant;

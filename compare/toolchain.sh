@@ -46,7 +46,8 @@ emulated() {
     $EMULATE "$@"
 }
 
-# Sets archive to the file that has the header's calls: the one named, or the stand-in for 'none'.
+# Sets archive to the file that has the header's calls: the one named, or the stand-in for 'none',
+# whose copy of the baseline's run has a name of its own, so that both can be linked.
 find_archive() {
     archive=$1
     if [ "$archive" = none ]; then
@@ -54,7 +55,8 @@ find_archive() {
         rm -f "$archive"
         for part in standin baseline; do
             # shellcheck disable=SC2086
-            "$CC" $c_flags -c "peer/$part.c" -o "target/compare/$part.o"
+            "$CC" $c_flags -Dbaseline_run=standin_run -c "peer/$part.c" \
+                -o "target/compare/$part.o"
             "$("$CC" -print-prog-name=ar)" rc "$archive" "target/compare/$part.o"
         done
     fi

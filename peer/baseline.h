@@ -1,4 +1,4 @@
-/* The baseline: the same calls as a C programmer would ship them, for speed. */
+/* The baseline: the same calls in the fastest C that we can write, to measure the archive against. */
 #ifndef BASELINE_H
 #define BASELINE_H
 

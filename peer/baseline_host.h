@@ -8,15 +8,15 @@
 /* What a start hands back and the decision itself has no need of. */
 struct baseline_packet {
     baseline_ticks arrival;
-    uint32_t length;
+    uint16_t length;
+    uint16_t marked;
     uint32_t place;
 };
 
-/* Each packet lies in the slot of its marking's ring. */
+/* Packets lie in a ring by their numbers, as their times do. */
 struct baseline_host {
     struct baseline_line line;
-    struct baseline_packet unmarked[BASELINE_ROOM];
-    struct baseline_packet marked[BASELINE_ROOM];
+    struct baseline_packet packets[BASELINE_RING];
 };
 
 _Static_assert(sizeof(struct baseline_host) <= sizeof(bilgethrum_line)
@@ -68,22 +68,28 @@ static inline bilgethrum_arrival baseline_host_arrive(bilgethrum_line *words,
         : baseline_unmarked(line, packet.length, packet.arrival, &extra);
     if (refusal != 0)
         return (bilgethrum_arrival){ .refusal = (uint32_t)refusal };
-    struct baseline_packet *slot = packet.marked != 0
-        ? &host->marked[(line->marked.end - 1) % BASELINE_ROOM]
-        : &host->unmarked[(line->unmarked.end - 1) % BASELINE_ROOM];
-    *slot = (struct baseline_packet){ packet.arrival, packet.length, packet.place };
+    host->packets[line->admitted % BASELINE_RING] =
+        (struct baseline_packet){ .arrival = packet.arrival, .length = (uint16_t)packet.length,
+                                  .marked = packet.marked != 0, .place = packet.place };
     return (bilgethrum_arrival){ .number = line->admitted, .extra = extra };
 }
 
-/* The packet on the line has just left the front of its ring. */
-static inline bilgethrum_packet baseline_host_on_line(const struct baseline_host *host)
+/* Member by member, since a whole literal would be cleared first. */
+static inline bilgethrum_decision baseline_host_decision(const struct baseline_host *host,
+                                                         struct baseline_start start)
 {
-    bool marked = !host->line.unmarked_on_line;
-    const struct baseline_packet *slot = marked
-        ? &host->marked[(host->line.marked.first - 1) % BASELINE_ROOM]
-        : &host->unmarked[(host->line.unmarked.first - 1) % BASELINE_ROOM];
-    return (bilgethrum_packet){ .arrival = slot->arrival, .length = slot->length,
-                                .place = slot->place, .marked = marked };
+    const struct baseline_packet *packet = &host->packets[start.number % BASELINE_RING];
+    bilgethrum_decision decision;
+    decision.refusal = BILGETHRUM_NOT_REFUSED;
+    decision.number = start.number;
+    decision.start = start.instant;
+    decision.extra = start.extra_delay;
+    decision.dropped = start.dropped;
+    decision.packet.arrival = packet->arrival;
+    decision.packet.length = packet->length;
+    decision.packet.place = packet->place;
+    decision.packet.marked = packet->marked;
+    return decision;
 }
 
 static inline bilgethrum_decision baseline_host_advance(bilgethrum_line *words, uint64_t at)
@@ -96,18 +102,16 @@ static inline bilgethrum_decision baseline_host_advance(bilgethrum_line *words, 
     int refusal = baseline_advance(&host->line, at, &decided, &start);
     if (refusal != 0 || !decided)
         return (bilgethrum_decision){ .refusal = (uint32_t)refusal };
-    return (bilgethrum_decision){ .number = start.number, .start = start.instant,
-                                  .extra = start.extra_delay, .dropped = start.dropped,
-                                  .packet = baseline_host_on_line(host) };
+    return baseline_host_decision(host, start);
 }
 
 static inline bilgethrum_tallies baseline_host_tally(const bilgethrum_line *words)
 {
     const struct baseline_line *line = &baseline_host_within(words)->line;
     return (bilgethrum_tallies){ .unmarked_admitted = line->unmarked_admitted,
-                                 .marked_admitted = line->marked_admitted,
+                                 .marked_admitted = baseline_marked_admitted(line),
                                  .unmarked_started = line->unmarked_started,
-                                 .marked_started = line->marked_started,
+                                 .marked_started = baseline_marked_started(line),
                                  .marked_dropped = line->marked_dropped };
 }
 
