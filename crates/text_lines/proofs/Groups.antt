@@ -33,13 +33,10 @@ last-eight v h b =
     let d : v % 10000 ≡ v % 100000000 % 10000 = omega arith in
     rw (last-four v (omega arith) b, last-four (v / 10000) (omega arith) (omega arith), append-assoc (decimal (v / 10000 / 10000)), a, c, d)
 
-pub three-digits : (v : ℕ) → 100 ≤ v → v < 1000 → decimal v ≡ digit (v / 100) ∷ two (v % 100)
-three-digits v h b = last-two v h (omega arith) ∙ rw (one-digit (v / 100) (omega arith))
-
-pub four-digits : (v : ℕ) → 1000 ≤ v → v < 10000 → decimal v ≡ four v
-four-digits v h b = last-two v (omega arith) (omega arith) ∙ rw (two-digits (v / 100) (omega arith) (omega arith))
-
 -- And as lengths.
+pub length-two : (v : ℕ) → 10 ^ 2 ≤ v → v < 10 ^ 20 → length (decimal v) ≡ length (decimal (v / 100)) + 2
+length-two v h b = ap length (last-two v h b) ∙ length-append (decimal (v / 100)) _
+
 pub length-four : (v : ℕ) → 10 ^ 4 ≤ v → v < 10 ^ 20 → length (decimal v) ≡ length (decimal (v / 10000)) + 4
 length-four v h b = ap length (last-four v h b) ∙ length-append (decimal (v / 10000)) _
 

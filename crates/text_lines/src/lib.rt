@@ -16,61 +16,71 @@ fn put_byte(out: &mut [u8], at: usize, b: u8) -> usize
     at + 1
 }
 
-// The two digits of a number below 100.
-fn put_two(out: &mut [u8], at: usize, v: u64) -> usize
+// The two digits of a number below 100. A remainder is formed from its quotient, here and below: a second division would be one more product.
+fn put_two(out: &mut [u8], at: usize, v: u32) -> usize
     requires { ⌜ (at + 2 ≤ length (now out)) × (v < 100) ⌝ }
     ensures { λ r. ⌜ Put (now (out .entry)) at (two v) (now (out .exit)) r ⌝ }
 {
-    let next = put_byte(out, at, (48 + v / 10) as u8);
-    put_byte(out, next, (48 + v % 10) as u8)
+    let tens = v / 10;
+    let next = put_byte(out, at, (48 + tens) as u8);
+    put_byte(out, next, (48 + (v - 10 * tens)) as u8)
 }
 
 // The four digits of a number below 10^4.
-fn put_four(out: &mut [u8], at: usize, v: u64) -> usize
+fn put_four(out: &mut [u8], at: usize, v: u32) -> usize
     requires { ⌜ (at + 4 ≤ length (now out)) × (v < 10 ^ 4) ⌝ }
     ensures { λ r. ⌜ Put (now (out .entry)) at (four v) (now (out .exit)) r ⌝ }
 {
-    let next = put_two(out, at, v / 100);
-    put_two(out, next, v % 100)
+    let upper = v / 100;
+    let next = put_two(out, at, upper);
+    put_two(out, next, v - 100 * upper)
 }
 
 // The eight digits of a number below 10^8.
-fn put_eight(out: &mut [u8], at: usize, v: u64) -> usize
+fn put_eight(out: &mut [u8], at: usize, v: u32) -> usize
     requires { ⌜ (at + 8 ≤ length (now out)) × (v < 10 ^ 8) ⌝ }
     ensures { λ r. ⌜ Put (now (out .entry)) at (eight v) (now (out .exit)) r ⌝ }
 {
-    let next = put_four(out, at, v / 10_000);
-    put_four(out, next, v % 10_000)
+    let upper = v / 10_000;
+    let next = put_four(out, at, upper);
+    put_four(out, next, v - 10_000 * upper)
 }
 
-// A number below 10^4.
-fn put_short(out: &mut [u8], at: usize, v: u64) -> usize
-    requires { ⌜ (at + length (decimal v) ≤ length (now out)) × (v < 10 ^ 4) ⌝ }
+// A number below 100.
+fn put_least(out: &mut [u8], at: usize, v: u32) -> usize
+    requires { ⌜ (at + length (decimal v) ≤ length (now out)) × (v < 100) ⌝ }
     ensures { λ r. ⌜ Put (now (out .entry)) at (decimal v) (now (out .exit)) r ⌝ }
 {
     if v < 10 {
         return put_byte(out, at, (48 + v) as u8);
     }
+    put_two(out, at, v)
+}
+
+// A number below 10^4.
+fn put_short(out: &mut [u8], at: usize, v: u32) -> usize
+    requires { ⌜ (at + length (decimal v) ≤ length (now out)) × (v < 10 ^ 4) ⌝ }
+    ensures { λ r. ⌜ Put (now (out .entry)) at (decimal v) (now (out .exit)) r ⌝ }
+{
     if v < 100 {
-        return put_two(out, at, v);
+        return put_least(out, at, v);
     }
-    if v < 1_000 {
-        let next = put_byte(out, at, (48 + v / 100) as u8);
-        return put_two(out, next, v % 100);
-    }
-    put_four(out, at, v)
+    let upper = v / 100;
+    let next = put_least(out, at, upper);
+    put_two(out, next, v - 100 * upper)
 }
 
 // A number below 10^8.
-fn put_middle(out: &mut [u8], at: usize, v: u64) -> usize
+fn put_middle(out: &mut [u8], at: usize, v: u32) -> usize
     requires { ⌜ (at + length (decimal v) ≤ length (now out)) × (v < 10 ^ 8) ⌝ }
     ensures { λ r. ⌜ Put (now (out .entry)) at (decimal v) (now (out .exit)) r ⌝ }
 {
     if v < 10_000 {
         return put_short(out, at, v);
     }
-    let next = put_short(out, at, v / 10_000);
-    put_four(out, next, v % 10_000)
+    let upper = v / 10_000;
+    let next = put_short(out, at, upper);
+    put_four(out, next, v - 10_000 * upper)
 }
 
 // A number of 10^8 and more.
@@ -80,21 +90,21 @@ fn put_long(out: &mut [u8], at: usize, v: u64) -> usize
 {
     let upper = v / 100_000_000;
     if upper < 100_000_000 {
-        let next = put_middle(out, at, upper);
-        return put_eight(out, next, v % 100_000_000);
+        let next = put_middle(out, at, upper as u32);
+        return put_eight(out, next, (v % 100_000_000) as u32);
     }
-    let first = put_short(out, at, upper / 100_000_000);
-    let next = put_eight(out, first, upper % 100_000_000);
-    put_eight(out, next, v % 100_000_000)
+    let first = put_short(out, at, (upper / 100_000_000) as u32);
+    let next = put_eight(out, first, (upper % 100_000_000) as u32);
+    put_eight(out, next, (v % 100_000_000) as u32)
 }
 
-// Without loop or recursion, four digits at a time: most of a text is numbers.
+// Without loop or recursion: most of a text is numbers.
 fn put_decimal(out: &mut [u8], at: usize, v: u64) -> usize
     requires { ⌜ at + length (decimal v) ≤ length (now out) ⌝ }
     ensures { λ r. ⌜ Put (now (out .entry)) at (decimal v) (now (out .exit)) r ⌝ }
 {
     if v < 100_000_000 {
-        return put_middle(out, at, v);
+        return put_middle(out, at, v as u32);
     }
     put_long(out, at, v)
 }
@@ -142,8 +152,8 @@ fn tell_end(out: &mut [u8], at: usize) -> usize
     tell_byte(out, at, b'\n')
 }
 
-// A space and a number. Their length is only worked out near the end of the area.
-fn tell_field(out: &mut [u8], at: usize, v: u64) -> usize
+// A space and any number. Their length is only worked out near the end of the area.
+fn tell_any(out: &mut [u8], at: usize, v: u64) -> usize
     requires { ⌜ at < 2 ^ 33 ⌝ }
     ensures { λ r. ⌜ Told (now (out .entry)) at (fieldText v) (now (out .exit)) r ⌝ }
 {
@@ -154,6 +164,18 @@ fn tell_field(out: &mut [u8], at: usize, v: u64) -> usize
         }
     }
     put_field(out, at, v)
+}
+
+// A space and a number, which is mostly short and far from the end: this much the compiler puts into each line, so that a line foresees its own lengths.
+fn tell_field(out: &mut [u8], at: usize, v: u64) -> usize
+    requires { ⌜ at < 2 ^ 33 ⌝ }
+    ensures { λ r. ⌜ Told (now (out .entry)) at (fieldText v) (now (out .exit)) r ⌝ }
+{
+    if out.len() < at + FIELD_MOST || 10_000 <= v {
+        return tell_any(out, at, v);
+    }
+    let first = put_byte(out, at, b' ');
+    put_short(out, first, v as u32)
 }
 
 // Lines by how many numbers they have. The numbers come as arguments: an array would be written and read again for each line.
@@ -184,13 +206,14 @@ pub fn tell_two(out: &mut [u8], at: usize, letter: u8, a: u64, b: u64) -> usize
     tell_end(out, end)
 }
 
+// The second number is an instant, and seldom short.
 pub fn tell_four(out: &mut [u8], at: usize, letter: u8, a: u64, b: u64, c: u64, d: u64) -> usize
     requires { ⌜ at < 2 ^ 32 ⌝ }
     ensures { λ r. ⌜ Told (now (out .entry)) at (lineText letter (a ∷ b ∷ c ∷ d ∷ [])) (now (out .exit)) r ⌝ }
 {
     let first = tell_byte(out, at, letter);
     let second = tell_field(out, first, a);
-    let third = tell_field(out, second, b);
+    let third = tell_any(out, second, b);
     let fourth = tell_field(out, third, c);
     let end = tell_field(out, fourth, d);
     tell_end(out, end)

@@ -7,10 +7,16 @@ use borrow.Author.Needs.{needs}
 use Rattle.text_lines.proofs.put_long.Statement.{statement}
 use Rattle.text_lines.proofs.put_long.Tie as tie
 
+cast-put-middle : tie.Need-cast-put-middle
+cast-put-middle c = search needs
+
 put-middle-requires : tie.Need-put-middle-requires
 put-middle-requires c κs =
     let e = length-eight (c .before .before .before .args .v) (c .before .before .before .pre .1) (omega arith) in
     omega arith
+
+cast-put-eight : tie.Need-cast-put-eight
+cast-put-eight c = search needs
 
 put-eight-requires : tie.Need-put-eight-requires
 put-eight-requires c κs =
@@ -24,6 +30,9 @@ returns : tie.Need-returns
 returns c =
     rw (last-eight (c .before .before .before .before .before .before .before .before .before .before .args .v) (c .before .before .before .before .before .before .before .before .before .before .pre .1) (omega arith)) (put-then (c .before .before .before .before .before .before .put-middle .ensures) (c .before .before .put-eight .ensures))
 
+cast-put-short : tie.Need-cast-put-short
+cast-put-short c = search needs
+
 put-short-requires : tie.Need-put-short-requires
 put-short-requires c κs =
     let v = c .before .before .before .args .v in
@@ -31,12 +40,18 @@ put-short-requires c κs =
     let f = length-eight (v / 100000000) (c .before .if1 .left) (omega arith) in
     omega arith
 
+cast-put-eight-2 : tie.Need-cast-put-eight-2
+cast-put-eight-2 c = search needs
+
 put-eight-requires-2 : tie.Need-put-eight-requires-2
 put-eight-requires-2 c κs =
     let v = c .before .before .before .before .before .before .before .args .v in
     let e = length-eight v (c .before .before .before .before .before .before .before .pre .1) (omega arith) in
     let f = length-eight (v / 100000000) (c .before .before .before .before .before .if1 .left) (omega arith) in
     omega (arith, c .before .before .before .put-short .ensures .place, c .before .before .before .put-short .kept .0)
+
+cast-put-eight-3 : tie.Need-cast-put-eight-3
+cast-put-eight-3 c = search needs
 
 put-eight-requires-3 : tie.Need-put-eight-requires-3
 put-eight-requires-3 c κs =
@@ -58,12 +73,17 @@ pub put-long-spec : {M : Type 1} → statement M
 put-long-spec =
     tie.close
     (tie.spec
+    cast-put-middle
     put-middle-requires
+    cast-put-eight
     put-eight-requires
     same-length
     returns
+    cast-put-short
     put-short-requires
+    cast-put-eight-2
     put-eight-requires-2
+    cast-put-eight-3
     put-eight-requires-3
     same-length-2
     returns-2)

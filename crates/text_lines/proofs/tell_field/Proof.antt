@@ -1,11 +1,9 @@
--- `text_lines::tell_field` meets its contract: far from the end it fits for sure, near it its length decides. Assumes nothing.
-use mathlib.Core.Logic.{⊎-elim}
+-- `text_lines::tell_field` meets its contract: far from the end a short number fits for sure, and any other is told. Assumes nothing.
 use native.Mathlib.Omega.{arith}
-use Prim.Native.Nat.{_+_, _≤_}
-use lib.ListN.{length}
-use Rattle.text.specs.Text.{fieldText}
+use borrow.Author.Tests.{leb-false}
 use Rattle.text.proofs.Digits.{decimal-most}
-use Rattle.text_lines.proofs.Tells.{told-put, told-only}
+use Rattle.text_lines.proofs.Puts.{put-then}
+use Rattle.text_lines.proofs.Tells.{told-put}
 use borrow.Author.Needs.{needs}
 use Rattle.text_lines.proofs.tell_field.Statement.{statement}
 use Rattle.text_lines.proofs.tell_field.Tie as tie
@@ -13,45 +11,41 @@ use Rattle.text_lines.proofs.tell_field.Tie as tie
 add-if1 : tie.Need-add-if1
 add-if1 c = search needs
 
-add-behind : tie.Need-add-behind
-add-behind c = search needs
-
-decimal-length-requires : tie.Need-decimal-length-requires
-decimal-length-requires c κs = search needs
-
-add-behind-2 : tie.Need-add-behind-2
-add-behind-2 c =
-    let a = c .before .before .before .args in
-    omega (arith, c .decimal-length .ensures, decimal-most (a .v), c .before .before .before .pre)
-
-returns : tie.Need-returns
-returns c =
-    let k = c .before .decimal-length .ensures in
-    told-only (omega arith) (omega (arith, c .if2 .taken))
-
-put-field-requires : tie.Need-put-field-requires
-put-field-requires c κs =
-    let a = c .before .before .before .args in
-    ⊎-elim {C = a .at + length (fieldText (a .v)) ≤ length (a .out .now)}
-    (λ w. omega (arith, w .1 .ensures, w .2 .left))
-    (λ w. omega (arith, decimal-most (a .v), w .left))
-    (c .before .if1 .came)
+tell-any-requires : tie.Need-tell-any-requires
+tell-any-requires c κs = search needs
 
 same-length : tie.Need-same-length
 same-length c = search needs
 
+returns : tie.Need-returns
+returns c = search needs
+
+put-byte-requires : tie.Need-put-byte-requires
+put-byte-requires c κs = search needs
+
+cast-put-short : tie.Need-cast-put-short
+cast-put-short c = search needs
+
+put-short-requires : tie.Need-put-short-requires
+put-short-requires c κs =
+    omega (arith, decimal-most (c .before .before .before .before .before .before .before .before .args .v), c .before .before .before .before .before .before .if1 .left, leb-false 10000 (c .before .before .before .before .before .before .before .before .args .v) (c .before .before .before .before .before .if2 .left), c .before .before .before .put-byte .ensures .place, c .before .before .before .put-byte .kept .0)
+
+same-length-2 : tie.Need-same-length-2
+same-length-2 c = search needs
+
 returns-2 : tie.Need-returns-2
-returns-2 c = told-put (c .before .before .put-field .ensures)
+returns-2 c = told-put (put-then (c .before .before .before .before .before .before .put-byte .ensures) (c .before .before .put-short .ensures))
 
 pub tell-field-spec : {M : Type 1} → statement M
 tell-field-spec =
     tie.close
     (tie.spec
     add-if1
-    add-behind
-    decimal-length-requires
-    add-behind-2
-    returns
-    put-field-requires
+    tell-any-requires
     same-length
+    returns
+    put-byte-requires
+    cast-put-short
+    put-short-requires
+    same-length-2
     returns-2)
