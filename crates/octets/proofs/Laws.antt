@@ -9,7 +9,7 @@ use lib.Pow.{pow-add}
 use lib.ListN.{length, getD, take, drop, length-append, length-drop, List·getD-append}
 use lib.Seq.{sets, take-suc, getD-drop, getD-at, getD-append-add}
 use Rattle.lists.proofs.Stores.{stored, stored-more}
-use Rattle.octets.specs.Octets.{Octets, numberAt, octetsOf, lowFirst, turned}
+use Rattle.octets.specs.Octets.{Octets, numberAt, octetsOf, lowFirst, swapped, turned}
 
 -- n bytes and then m bytes: the first number scaled by 256 ^ m, and the second.
 pub number-add : (s : List ℕ) (at n m : ℕ) → numberAt s at (n + m) ≡ numberAt s at n * 256 ^ m + numberAt s (at + n) m
@@ -73,6 +73,11 @@ low-add s at (suc n) m =
     let e : at + 1 + n ≡ at + suc n = omega arith in
     let h = low-add s (at + 1) n m in
     rw (suc-add n m, h, e, pow-suc 256 n) (simp (mul-add, add-assoc, mul-assoc, mul-left-comm))
+
+-- Two bytes turned are swapped.
+pub turned-two : (w : ℕ) → w < 65536 → turned 2 w ≡ swapped w
+unfolding turned
+turned-two w h = omega arith
 
 -- Turned by parts: the lower n bytes come first.
 pub turned-add : (n m v : ℕ) → turned (n + m) v ≡ turned n (v % 256 ^ n) * 256 ^ m + turned m (v / 256 ^ n)

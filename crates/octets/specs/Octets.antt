@@ -18,6 +18,10 @@ unfoldable pub lowFirst : List ℕ → (at width : ℕ) → ℕ
 lowFirst s at zero = 0
 lowFirst s at (suc n) = getD s at 0 + 256 * lowFirst s (at + 1) n
 
+-- A word with its two bytes swapped.
+abbrev pub swapped : ℕ → ℕ
+swapped w = w % 256 * 256 + w / 256
+
 -- A number with its bytes, as many as `width` says, in the opposite order.
 unfoldable pub turned : (width value : ℕ) → ℕ
 turned zero v = 0
