@@ -3,7 +3,7 @@ use mathlib.Core.Path.{_≡_, refl, sym, ap, subst, _∙_}
 use mathlib.Core.List.{List, [], _∷_, _++_, append-assoc, append-nil}
 use Prim.Native.Nat.{ℕ, zero, suc, _+_, _-_, _*_, _/_, _%_, _^_, _≤_, _<_}
 use native.Mathlib.Omega.{arith}
-use native.Mathlib.Nat.{add-zero, zero-add, add-suc, suc-add, add-assoc, add-left-comm, mul-assoc, mul-left-comm, add-mul, mul-add, zero-mul, one-mul, mul-one, pow-zero, pow-suc, div-one, mul-comm, div-div-eq-div-mul}
+use native.Mathlib.Nat.{add-zero, zero-add, add-suc, suc-add, add-assoc, mul-assoc, mul-left-comm, add-mul, mul-add, zero-mul, one-mul, mul-one, pow-zero, pow-suc, div-one, mul-comm, div-div-eq-div-mul}
 use lib.Arith.{mod-mul, digits-div, digits-mod, digits-lt}
 use lib.Pow.{pow-add}
 use lib.ListN.{length, getD, take, drop, length-append, length-drop, List·getD-append}

@@ -2,7 +2,7 @@
 ghost use mathlib.Core.Path.{_≡_};
 ghost use Prim.Native.Nat.{_%_};
 ghost use Rattle.room.specs.Room.{withKept};
-ghost use Rattle.scheduler_kept.specs.Words.{settingsWords, lineWords, extraWords, tallyWords, schedulerWords, settingsIn, lineIn, extraIn, talliesIn, instantIn, schedulerIn};
+ghost use Rattle.scheduler_kept.specs.Words.{settingsWords, lineWords, extraWords, tallyWords, schedulerWords, settingsIn, lineIn, extraIn, talliesIn, schedulerIn};
 use room::Room;
 use room::keep_long;
 use room::kept_long;
