@@ -1,0 +1,10 @@
+pub mod Terms
+pub mod Bucket
+pub mod Step
+pub mod Open
+pub mod Told
+pub mod Apart
+pub mod Stretches
+pub mod Content
+pub mod Promises
+pub mod Opened

@@ -1,0 +1,74 @@
+-- What calls and answers tell by themselves: nothing here reads a bucket. Assumes nothing.
+use mathlib.Core.Bool.{Bool, true, false}
+use mathlib.Core.List.{List, [], _∷_, map}
+use Prim.Native.Nat.{ℕ, _+_, _-_}
+use lib.Dec.{eqb}
+use Rattle.marker_rules.specs.Terms.{Terms}
+use Rattle.marker_rules.specs.Step.{Call, Answer, unmarked, marked, refused, Marker, step}
+
+-- A call with its answer.
+pub record Told : Type 0 where
+  pub call : Call
+  pub answer : Answer
+
+-- The calls with their answers, from a marker on.
+unfoldable pub told : Terms → Marker → List Call → List Told
+told σ s [] = []
+told σ s (c ∷ cs) = record { call = c; answer = step σ s c .answer } ∷ told σ (step σ s c .marker) cs
+
+-- The instants of the accepted calls, of all flows: a refused call has none.
+abbrev pub addInstant : Call → Answer → List ℕ → List ℕ
+addInstant c unmarked ts = c .at ∷ ts
+addInstant c marked ts = c .at ∷ ts
+addInstant c (refused n) ts = ts
+
+abbrev pub instants : List Told → List ℕ
+instants [] = []
+instants (h ∷ hs) = addInstant (h .call) (h .answer) (instants hs)
+
+-- The last of some instants, t if there are none; and the last minus the first.
+abbrev pub lastOf : (t : ℕ) → List ℕ → ℕ
+lastOf t [] = t
+lastOf t (u ∷ us) = lastOf u us
+
+abbrev pub spanOf : List ℕ → ℕ
+spanOf [] = 0
+spanOf (t ∷ ts) = lastOf t ts - t
+
+-- A packet that was accepted, and whether it was left unmarked.
+pub record Passed : Type 0 where
+  pub len : ℕ
+  pub at : ℕ
+  pub unmarked : Bool
+
+abbrev pub passed : Call → Bool → Passed
+passed c b = record { len = c .len; at = c .at; unmarked = b }
+
+-- The accepted packets of flow f.
+abbrev pub addIf : Bool → Passed → List Passed → List Passed
+addIf true p ps = p ∷ ps
+addIf false p ps = ps
+
+abbrev pub addOwn : (f : ℕ) → Call → Answer → List Passed → List Passed
+addOwn f c unmarked ps = addIf (eqb (c .flow) f) (passed c true) ps
+addOwn f c marked ps = addIf (eqb (c .flow) f) (passed c false) ps
+addOwn f c (refused n) ps = ps
+
+abbrev pub ofFlow : (f : ℕ) → List Told → List Passed
+ofFlow f [] = []
+ofFlow f (h ∷ hs) = addOwn f (h .call) (h .answer) (ofFlow f hs)
+
+-- Their unmarked bytes, and their instants.
+abbrev pub onlyIf : Bool → ℕ → ℕ
+onlyIf true n = n
+onlyIf false n = 0
+
+abbrev pub unmarkedBytes : List Passed → ℕ
+unmarkedBytes [] = 0
+unmarkedBytes (p ∷ ps) = onlyIf (p .unmarked) (p .len) + unmarkedBytes ps
+
+abbrev pub instantOf : Passed → ℕ
+instantOf p = p .at
+
+abbrev pub instantsOf : List Passed → List ℕ
+instantsOf ps = map instantOf ps
