@@ -5,7 +5,7 @@ use Prim.Native.Nat.{ℕ, _≤_}
 use Rattle.marker_flows.specs.declared.Flow.{Flow}
 use Rattle.marker_rules.specs.Terms.{Terms, flowAt}
 use Rattle.marker_rules.specs.Bucket.{Bucket, holds, bucketThen}
-use Rattle.marker_rules.specs.Step.{Call, Marker, bucketAt, fresh, after}
+use Rattle.marker_rules.specs.Step.{Call, bucketAt, fresh, after}
 use Rattle.marker_rules.specs.Told.{Passed, told, ofFlow}
 
 module _ (w : Flow) where

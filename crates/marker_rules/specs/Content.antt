@@ -5,7 +5,7 @@ use Prim.Native.Nat.{ℕ, _+_, _*_, _-_, _≤_}
 use Rattle.marker_flows.specs.declared.Flow.{Flow}
 use Rattle.marker_rules.specs.Terms.{Terms, flowAt}
 use Rattle.marker_rules.specs.Bucket.{Bucket, million, topOf, levelOf, bucketThen}
-use Rattle.marker_rules.specs.Step.{Call, Marker, bucketAt, fresh, after}
+use Rattle.marker_rules.specs.Step.{Call, bucketAt, fresh, after}
 use Rattle.marker_rules.specs.Told.{Passed, told, ofFlow, unmarkedBytes}
 
 -- To look at a bucket on the way changes nothing: so it need be looked at only when its own flow calls.

@@ -1,0 +1,47 @@
+-- The marker keeps its promises, for any flows and limits. Assumes nothing.
+use mathlib.Core.Path.{ap}
+use mathlib.Core.List.{List}
+use Prim.Native.Nat.{ℕ}
+use Rattle.marker_rules.specs.Terms.{Terms, flowAt}
+use Rattle.marker_rules.specs.Bucket.{Bucket}
+use Rattle.marker_rules.specs.Step.{Call, bucketAt, fresh}
+use Rattle.marker_rules.specs.Told.{told, ofFlow}
+use Rattle.marker_rules.specs.Apart.{Alone}
+use Rattle.marker_rules.specs.Stretches.{OwnBounded, MarksExactly}
+use Rattle.marker_rules.specs.Promises.{Keeps, MarkerKeeps}
+use Rattle.marker_rules.proofs.Bound.{own-bounded}
+use Rattle.marker_rules.proofs.Need.{marks-exactly}
+use Rattle.marker_rules.proofs.Turns.{refusal-keeps, fresh-bucket, lasting-fresh, lasting-after}
+use Rattle.marker_rules.proofs.Apart.{alone, by-itself}
+use Rattle.marker_rules.proofs.Spans.{bounded-by, told-onward}
+use Rattle.marker_rules.proofs.Content.{nothing-lost}
+
+module _ (σ : Terms) where
+  module _ (cs : List Call) (f : ℕ) where
+    own : Alone (flowAt σ f) (bucketAt (fresh σ) f) (ofFlow f (told σ (fresh σ) cs))
+    own = alone σ f (fresh σ) cs (lasting-fresh σ f)
+
+    own-within : OwnBounded (flowAt σ f) (ofFlow f (told σ (fresh σ) cs))
+    own-within = own-bounded (flowAt σ f) (bucketAt (fresh σ) f) (ofFlow f (told σ (fresh σ) cs)) own
+
+    exact : MarksExactly (flowAt σ f) (ofFlow f (told σ (fresh σ) cs))
+    exact =
+        marks-exactly (flowAt σ f) (bucketAt (fresh σ) f) (ofFlow f (told σ (fresh σ) cs)) (ap (λ (b : Bucket). b .held) (fresh-bucket σ f)) own
+
+  pub keeps : (cs : List Call) → Keeps σ (told σ (fresh σ) cs)
+  keeps cs =
+      record {
+        bounded = λ f. bounded-by (flowAt σ f) f 0 (told σ (fresh σ) cs) (told-onward σ (fresh σ) cs) (own-within cs f);
+        ownBounded = own-within cs;
+        exactly = exact cs;
+      }
+
+  pub marker-keeps : MarkerKeeps σ
+  marker-keeps =
+      record {
+        keeps = keeps;
+        byItself = by-itself σ;
+        nothingLost = nothing-lost σ;
+        refusal = refusal-keeps σ;
+        sound = λ cs f. let k = lasting-after σ f (fresh σ) cs (lasting-fresh σ f) in (k .most, k .past);
+      }

@@ -1,0 +1,10 @@
+pub mod Laws
+pub mod Alone
+pub mod Bound
+pub mod Need
+pub mod Turns
+pub mod Apart
+pub mod Spans
+pub mod Content
+pub mod Opens
+pub mod Keeps
