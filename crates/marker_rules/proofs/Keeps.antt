@@ -1,17 +1,19 @@
 -- The marker keeps its promises, for any flows and limits. Assumes nothing.
-use mathlib.Core.Path.{ap}
+use mathlib.Core.Path.{_≡_, refl, ap}
+use mathlib.Core.Bool.{Bool, true, false}
 use mathlib.Core.List.{List}
 use Prim.Native.Nat.{ℕ}
+use native.Mathlib.Omega.{arith}
 use Rattle.marker_rules.specs.Terms.{Terms, flowAt}
-use Rattle.marker_rules.specs.Bucket.{Bucket}
-use Rattle.marker_rules.specs.Step.{Call, bucketAt, fresh}
+use Rattle.marker_rules.specs.Bucket.{Bucket, holds}
+use Rattle.marker_rules.specs.Step.{Call, refused, Marker, Outcome, bucketAt, answerBy, fresh}
 use Rattle.marker_rules.specs.Told.{told, ofFlow}
 use Rattle.marker_rules.specs.Apart.{Alone}
 use Rattle.marker_rules.specs.Stretches.{OwnBounded, MarksExactly}
-use Rattle.marker_rules.specs.Promises.{Keeps, MarkerKeeps}
+use Rattle.marker_rules.specs.Promises.{Keeps, RefusalKeeps, MarkerKeeps}
 use Rattle.marker_rules.proofs.Bound.{own-bounded}
 use Rattle.marker_rules.proofs.Need.{marks-exactly}
-use Rattle.marker_rules.proofs.Turns.{refusal-keeps, fresh-bucket, lasting-fresh, lasting-after}
+use Rattle.marker_rules.proofs.Turns.{Move, refuses, accepts, move, fresh-bucket, lasting-fresh, lasting-after}
 use Rattle.marker_rules.proofs.Apart.{alone, by-itself}
 use Rattle.marker_rules.proofs.Spans.{bounded-by, told-onward}
 use Rattle.marker_rules.proofs.Content.{nothing-lost}
@@ -36,12 +38,24 @@ module _ (σ : Terms) where
         exactly = exact cs;
       }
 
+  -- An answer to an accepted packet is no refusal.
+  not-refused : (b : Bool) (n : ℕ) → answerBy b ≡ refused n → ⊥
+  not-refused true n e = let z : _≡_ {A = ℕ} 0 1 = cc in omega arith
+  not-refused false n e = let z : _≡_ {A = ℕ} 0 1 = cc in omega arith
+
+  unmoved : (s : Marker) (c : Call) (n : ℕ) (o : Outcome) → Move σ s c o → o .answer ≡ refused n → o .marker ≡ s
+  unmoved s c n _ (refuses m) e = refl
+  unmoved s c n _ (accepts a) e = absurd (not-refused (holds (flowAt σ (c .flow)) (bucketAt s (c .flow)) (c .len) (c .at)) n e)
+
+  refusal-keeps : RefusalKeeps σ
+  refusal-keeps s c n e = unmoved s c n _ (move σ s c) e
+
   pub marker-keeps : MarkerKeeps σ
   marker-keeps =
       record {
         keeps = keeps;
         byItself = by-itself σ;
         nothingLost = nothing-lost σ;
-        refusal = refusal-keeps σ;
+        refusal = refusal-keeps;
         sound = λ cs f. let k = lasting-after σ f (fresh σ) cs (lasting-fresh σ f) in (k .most, k .past);
       }

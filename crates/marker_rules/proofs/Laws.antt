@@ -4,7 +4,6 @@ use mathlib.Core.Bool.{Bool, true, false}
 use Prim.Native.Nat.{ℕ, _+_, _*_, _-_, _≤_}
 use native.Mathlib.Nat.{mul-add}
 use native.Mathlib.Omega.{arith}
-use lib.Dec.{leb}
 use borrow.Author.Tests.{leb-true}
 use Rattle.marker_flows.specs.declared.Flow.{Flow}
 use Rattle.marker_rules.specs.Bucket.{Bucket, million, topOf, levelOf, holds, takenBy, bucketThen}
@@ -22,8 +21,8 @@ looking-keeps w b k t h i = omega (arith, inflow (w .rate) (b .looked) k t h i)
 
 module _ (w : Flow) (b : Bucket) (len t : ℕ) where
   -- What the bucket then holds and what was paid make its level, by the test's value.
-  paid-by : (x : Bool) → leb (million * len) (levelOf w b t) ≡ x → takenBy x (levelOf w b t) len t .held + million * onlyIf x len ≡ levelOf w b t
-  paid-by true e = omega (arith, leb-true (million * len) (levelOf w b t) e)
+  paid-by : (x : Bool) → holds w b len t ≡ x → takenBy x (levelOf w b t) len t .held + million * onlyIf x len ≡ levelOf w b t
+  paid-by true e = omega (arith, leb-true)
   paid-by false e = omega arith
 
   pub paid : bucketThen w b len t .held + million * onlyIf (holds w b len t) len ≡ levelOf w b t

@@ -14,9 +14,8 @@ use Rattle.refusals.proofs.Laws.{passes}
 use Rattle.marker_flows.specs.Flows.{noFlow}
 use Rattle.marker_rules.specs.Terms.{Terms, flowAt}
 use Rattle.marker_rules.specs.Bucket.{topOf, full, holds, bucketThen}
-use Rattle.marker_rules.specs.Step.{Call, Answer, refused, Marker, Outcome, bucketAt, refusal, answerBy, fresh, testsOf, accepted, answering, step, after}
+use Rattle.marker_rules.specs.Step.{Call, Answer, Marker, Outcome, bucketAt, refusal, answerBy, fresh, testsOf, accepted, answering, step, after}
 use Rattle.marker_rules.specs.Told.{Passed, passed, addOwn}
-use Rattle.marker_rules.specs.Promises.{RefusalKeeps}
 use Rattle.marker_rules.proofs.Laws.{looked-then, held-then}
 
 module _ (σ : Terms) where
@@ -39,18 +38,6 @@ module _ (σ : Terms) where
   pub move : (s : Marker) (c : Call) → Move s c (step σ s c)
   unfolding step
   move s c = move-by s c _ refl
-
-  -- An answer to an accepted packet is no refusal.
-  not-refused : (b : Bool) (n : ℕ) → answerBy b ≡ refused n → ⊥
-  not-refused true n e = let z : _≡_ {A = ℕ} 0 1 = cc in omega arith
-  not-refused false n e = let z : _≡_ {A = ℕ} 0 1 = cc in omega arith
-
-  keeps : (s : Marker) (c : Call) (n : ℕ) (o : Outcome) → Move s c o → o .answer ≡ refused n → o .marker ≡ s
-  keeps s c n _ (refuses m) e = refl
-  keeps s c n _ (accepts a) e = absurd (not-refused (holds (flowAt σ (c .flow)) (bucketAt s (c .flow)) (c .len) (c .at)) n e)
-
-  pub refusal-keeps : RefusalKeeps σ
-  refusal-keeps s c n e = keeps s c n _ (move s c) e
 
   module _ (f : ℕ) where
     -- What lasts: there is a bucket for each flow, it holds at most its depth, and no look at it is after the clock.
