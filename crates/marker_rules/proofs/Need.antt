@@ -11,7 +11,7 @@ use Rattle.marker_flows.specs.declared.Flow.{Flow}
 use Rattle.marker_rules.specs.Bucket.{Bucket, million, topOf, levelOf, holds, bucketThen}
 use Rattle.marker_rules.specs.Told.{Passed, lastOf, spanOf, onlyIf, unmarkedBytes, instantsOf}
 use Rattle.marker_rules.specs.Apart.{Alone, bucketAfter}
-use Rattle.marker_rules.specs.Stretches.{Needed, MarksExactly}
+use Rattle.marker_rules.specs.Stretches.{Needed, MarksExactly, leftUnmarked, InExcess}
 use Rattle.marker_rules.proofs.Laws.{inflow, paid, looked-then}
 use Rattle.marker_rules.proofs.Alone.{alone-first, alone-rest}
 use Rattle.marker_rules.proofs.Bound.{own-bounded}
@@ -148,3 +148,17 @@ module _ (w : Flow) where
       let rest = alone-rest w b done (p ∷ later) whole in
       let x = traced [] done b (alone-first w b done (p ∷ later) whole) (brimful f) in
       ((λ m. needed done (bucketAfter w b done) p (rest .0) (rest .1) m x), (λ n. marked-then b done p later whole n _ refl))
+
+-- The instants are those of the packet as it came.
+same-instants : (ps : List Passed) (p : Passed) → instantsOf (ps ++ leftUnmarked p ∷ []) ≡ instantsOf (ps ++ p ∷ [])
+same-instants [] p = refl
+same-instants (q ∷ ps) p = ap (λ (ts : List ℕ). q .at ∷ ts) (same-instants ps p)
+
+pub in-excess : InExcess
+in-excess w done p n k =
+    let s : done ++ leftUnmarked p ∷ [] ≡ n .before ++ ((n .these ++ leftUnmarked p ∷ []) ++ []) =
+    rw (n .split, append-assoc (n .before) (n .these) (leftUnmarked p ∷ []), append-nil (n .these ++ leftUnmarked p ∷ [])) in
+    let h = k (n .before) (n .these ++ leftUnmarked p ∷ []) [] s in
+    let u = bytes-more (n .these) (leftUnmarked p) in
+    let e = ap (λ (ts : List ℕ). w .rate * spanOf ts) (same-instants (n .these) p) in
+    omega (arith, h, u, e, n .over)

@@ -1,6 +1,7 @@
 pub mod Terms
 pub mod Bucket
 pub mod Step
+pub mod Numbers
 pub mod Open
 pub mod Told
 pub mod Apart

@@ -1,6 +1,6 @@
 -- What a stretch of calls with their answers keeps to: over calls and answers alone. Assumes nothing.
 use mathlib.Core.Path.{_≡_}
-use mathlib.Core.Bool.{false}
+use mathlib.Core.Bool.{true, false}
 use mathlib.Core.Logic.{_↔_}
 use mathlib.Core.List.{List, [], _∷_, _++_}
 use Prim.Native.Nat.{ℕ, _+_, _*_, _≤_, _<_}
@@ -37,3 +37,10 @@ module _ (w : Flow) where
   -- NOTHING IS MARKED WITHOUT NEED, and with need everything is: a packet of the flow is marked exactly if it has to be.
   abbrev pub MarksExactly : List Passed → Type 0
   MarksExactly ps = (done : List Passed) (p : Passed) (later : List Passed) → ps ≡ done ++ p ∷ later → (p .unmarked ≡ false) ↔ Needed done p
+
+-- NO OTHER MARKER leaves more unmarked from the same history: where there is need to mark p, a list that goes on with p unmarked breaks the bound.
+abbrev pub leftUnmarked : Passed → Passed
+leftUnmarked p = record { len = p .len; at = p .at; unmarked = true }
+
+abbrev pub InExcess : Type 0
+InExcess = (w : Flow) (done : List Passed) (p : Passed) → Needed w done p → OwnBounded w (done ++ leftUnmarked p ∷ []) → ⊥
