@@ -48,6 +48,10 @@ leastFlow = record { rate = 1; depth = 1 }
 abbrev pub noFlow : Flow
 noFlow = record { rate = 0; depth = 0 }
 
--- The flows asked for: as many as are counted, from the front of the array.
+-- So many flows from the front of an array.
+abbrev pub firstFlows : (count : ℕ) → List Flow → List Flow
+firstFlows count each = tab count (λ i. getD each i noFlow)
+
+-- The flows asked for.
 abbrev pub flowsOf : Flows → List Flow
-flowsOf a = tab (a .count) (λ i. getD (a .each) i noFlow)
+flowsOf a = firstFlows (a .count) (a .each)

@@ -1,0 +1,7 @@
+pub mod Words
+pub mod Calls
+pub mod Values
+pub mod Machine
+pub mod Stands
+pub mod Promises
+pub mod Agreement
