@@ -13,7 +13,8 @@ named=${1:-target/staticlib/libbilgethrum.a}
 [ $# -eq 0 ] || shift
 mkdir -p target/compare
 find_archive "$named"
-second='peer/second.c peer/second_line.c peer/second_blocks.c peer/second_columns.c'
+second='peer/second.c peer/second_line.c peer/second_blocks.c peer/second_columns.c
+    peer/second_marker.c'
 compare=
 for part in compare/*.c; do
     case $part in
