@@ -9,9 +9,10 @@
 struct marker_course pick_marker_course(struct random *random)
 {
     static const unsigned wild[] = { 0, 0, 3, 10, 50 };
-    return (struct marker_course){ .wild = PICK(random, wild),
-                                   .markers = (unsigned)random_between(random, 1, MOST_MARKERS),
-                                   .steps = random_between(random, 1, MOST_MARKER_STEPS) };
+    static const unsigned markers[] = { 1, 1, 2, MOST_MARKERS };
+    static const size_t most[] = { 20, 80, 80, MOST_MARKER_STEPS };
+    return (struct marker_course){ .wild = PICK(random, wild), .markers = PICK(random, markers),
+                                   .steps = random_between(random, 1, PICK(random, most)) };
 }
 
 /* With a rate that divides a million every length can be met exactly. */
@@ -27,7 +28,7 @@ static uint32_t pick_rate(struct random *random)
 
 static uint32_t pick_depth(struct random *random)
 {
-    static const uint32_t some[] = { 1, 1, 2, 1000, 2047, 2048, 2049, 4294, 4295, MOST_DEPTH - 1,
+    static const uint32_t some[] = { 1, 2, 1000, 2047, 2048, 2049, 4294, 4295, MOST_DEPTH - 1,
                                      MOST_DEPTH };
     static const uint32_t most[] = { 100, 3000, MOST_DEPTH };
     if (random_percent(random, 40))
@@ -57,14 +58,15 @@ static void spoil(struct random *random, bilgethrum_flows *flows)
 
 bilgethrum_flows pick_flows(struct random *random)
 {
-    bilgethrum_flows flows = { .count = (uint32_t)random_between(random, 1, MOST_FLOWS) };
+    static const uint32_t most[] = { 2, MOST_FLOWS };
+    bilgethrum_flows flows = { .count = (uint32_t)random_between(random, 1, PICK(random, most)) };
     bool beyond_are_right = random_percent(random, 30);
     for (uint32_t i = 0; i < MOST_FLOWS; i++) {
         bool right = i < flows.count || beyond_are_right;
         flows.each[i].rate = right ? pick_rate(random) : PICK(random, wrong_rates);
         flows.each[i].depth = right ? pick_depth(random) : PICK(random, wrong_depths);
     }
-    if (random_percent(random, 15))
+    if (random_percent(random, 12))
         spoil(random, &flows);
     return flows;
 }
@@ -115,7 +117,8 @@ static bool aim_at_length(struct random *random, struct marker_aim aim, struct m
     if (held >= most * MILLION)
         return false;
     for (int tries = 0; tries < 16; tries++) {
-        step->length = (uint32_t)random_between(random, held / MILLION + 1, most);
+        uint64_t length = held / MILLION + 1;
+        step->length = (uint32_t)(tries == 0 ? length : random_between(random, length, most));
         uint64_t missing = step->length * (uint64_t)MILLION - held - less;
         step->at = aim.marker->clock + missing / rate;
         if (missing % rate == 0)
@@ -165,9 +168,10 @@ static struct marker_step aimed_packet(struct random *random, struct marker_aim 
     struct marker_step step = { .kind = MARKER_MARK, .at = aim.marker->clock };
     step.flow = (uint32_t)random_below(random, aim.marker->count);
     uint64_t pick = random_below(random, 100);
-    if (pick < 40 && aim_at_length(random, aim, &step))
+    step.length = MOST_LENGTH;
+    if (pick < 60 && (aim_at_length(random, aim, &step) || pick < 30))
         return step;
-    if (pick >= 80)
+    if (pick >= 85)
         step.at = later_instant(random, aim, step.flow);
     step.length = some_length(random, (uint64_t)second_held(aim.marker, step.flow, step.at),
                               bucket_of(aim, step.flow)->flow.depth);

@@ -26,7 +26,7 @@ struct marker_course {
     unsigned markers;
 };
 
-enum { MOST_MARKERS = 3, MOST_MARKER_STEPS = 150 };
+enum { MOST_MARKERS = 3, MOST_MARKER_STEPS = 500 };
 
 /* What a packet is aimed by: the buckets, and when each flow had its last packet. */
 struct marker_aim {

@@ -176,17 +176,19 @@ static void begin_list(unsigned markers, uint64_t index, struct random *random)
     }
 }
 
+/* Towards the end of the clock fewer instants are left to aim at, so a marker is soon opened
+ * anew there. */
 static struct marker_step next_step(struct random *random, const struct marker_course *course)
 {
     unsigned marker = (unsigned)random_below(random, course->markers);
     unsigned other = (unsigned)random_below(random, course->markers);
     uint64_t pick = random_below(random, 100);
-    if (pick == 0)
+    struct pair *pair = &pairs[marker];
+    if (pick == 0 && other != marker)
+        return (struct marker_step){ .kind = MARKER_COPY, .marker = marker, .from = other };
+    if (pick < (pair->second.clock < MOST_INSTANT / 2 ? 2 : 15))
         return (struct marker_step){ .kind = MARKER_OPEN, .marker = marker,
                                      .flows = pick_flows(random) };
-    if (pick == 1 && other != marker)
-        return (struct marker_step){ .kind = MARKER_COPY, .marker = marker, .from = other };
-    struct pair *pair = &pairs[marker];
     struct marker_step step = pick_mark(random, course->wild,
                                         (struct marker_aim){ &pair->second, pair->last });
     step.marker = marker;
