@@ -101,9 +101,34 @@ static const struct marker_case cases[] = {
 
 enum { CASES = sizeof cases / sizeof cases[0] };
 
+/* 31 packets of 2,048 bytes and one of 2,047 empty the deepest bucket. */
+static void empty_deepest(struct marker_case *written, uint64_t at)
+{
+    for (int i = 0; i < 32; i++) {
+        written->packets[written->count].length = i < 31 ? 2048 : 2047;
+        written->packets[written->count].at = at;
+        written->count++;
+    }
+}
+
+/* The longest that a bucket can take to fill, to the last millionth. */
+static void hold_deepest(void)
+{
+    struct marker_case written = { .name = "the deepest bucket at the least rate",
+                                   .flows = { 1, { { 1, 65535 } } } };
+    empty_deepest(&written, 0);
+    empty_deepest(&written, UINT64_C(65535000000));
+    written.packets[written.count].length = 1;
+    written.packets[written.count].at = UINT64_C(65535999999);
+    written.packets[written.count].answer.marked = 1;
+    written.count++;
+    hold_marker_case(&written);
+}
+
 void hold_marker_cases(void)
 {
     for (int i = 0; i < CASES; i++)
         hold_marker_case(&cases[i]);
-    printf("%12d  cases of the marker with answers worked out by hand\n", CASES);
+    hold_deepest();
+    printf("%12d  cases of the marker with answers worked out by hand\n", CASES + 1);
 }

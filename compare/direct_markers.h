@@ -4,7 +4,7 @@
 
 #include "bilgethrum.h"
 
-enum { MOST_CASE_PACKETS = 8 };
+enum { MOST_CASE_PACKETS = 65 };
 
 struct marker_case {
     const char *name;
