@@ -1,4 +1,4 @@
-/* The baseline's marker: a bucket is filled when its flow has a packet, in 64 bits and without a jump. */
+/* The baseline's marker: a bucket is filled when its flow has a packet, in numbers of 64 bits. */
 #ifndef BASELINE_MARKER_H
 #define BASELINE_MARKER_H
 
@@ -6,7 +6,7 @@
 
 #define BASELINE_MILLION UINT64_C(1000000)
 
-/* After so many ticks every bucket is full, even the deepest at the least rate.  Such a span
+/* After so many ticks every bucket is full, even the deepest at the least rate.  A shorter span
  * times any rate has room in 64 bits, so that none has to be multiplied as a longer one. */
 #define BASELINE_FILLED (BILGETHRUM_MOST_DEPTH * BASELINE_MILLION)
 
@@ -23,7 +23,7 @@ struct baseline_bucket {
 
 struct baseline_marker {
     uint64_t clock;
-    uint64_t count;
+    uint32_t count;
     struct baseline_bucket buckets[BILGETHRUM_MOST_FLOWS];
 };
 
@@ -67,8 +67,17 @@ static inline uint32_t baseline_open_marker(bilgethrum_marker *words, bilgethrum
     return refusal;
 }
 
-/* Whether a packet can be paid for cannot be foreseen, so the price is taken without a jump;
- * that it is not refused can. */
+static inline uint64_t baseline_held(const struct baseline_bucket *bucket, uint64_t at)
+{
+    uint64_t span = at - bucket->looked_at;
+    if (span >= BASELINE_FILLED)
+        return bucket->full;
+    uint64_t held = bucket->held + bucket->rate * span;
+    return held < bucket->full ? held : bucket->full;
+}
+
+/* Whether a packet can be paid for cannot be foreseen, so the price is taken without a jump,
+ * and given back where it does not go; that a packet is not refused can be. */
 static inline bilgethrum_marking baseline_mark(bilgethrum_marker *words, uint32_t flow,
                                                uint32_t length, uint64_t at)
 {
@@ -82,13 +91,10 @@ static inline bilgethrum_marking baseline_mark(bilgethrum_marker *words, uint32_
     if (at < marker->clock)
         return (bilgethrum_marking){ .refusal = BILGETHRUM_REFUSED_BEFORE_CLOCK };
     struct baseline_bucket *bucket = &marker->buckets[flow];
-    uint64_t span = at - bucket->looked_at;
-    uint64_t price = length * BASELINE_MILLION;
-    span = span < BASELINE_FILLED ? span : BASELINE_FILLED;
-    uint64_t held = bucket->held + bucket->rate * span;
-    held = held < bucket->full ? held : bucket->full;
-    uint64_t marked = held < price;
-    bucket->held = held - (price & (marked - 1));
+    uint64_t held = baseline_held(bucket, at);
+    uint64_t left;
+    uint64_t marked = __builtin_sub_overflow(held, length * BASELINE_MILLION, &left);
+    bucket->held = marked ? held : left;
     bucket->looked_at = at;
     marker->clock = at;
     return (bilgethrum_marking){ .marked = (uint32_t)marked };
