@@ -9,6 +9,7 @@
 
 #include "baseline.h"
 #include "images.h"
+#include "marks.h"
 #include "pairs.h"
 #include "turns.h"
 
@@ -184,6 +185,7 @@ int main(void)
     measure_advances("whole run, advances with nothing due");
     measure_waiting();
     measure_pairs();
+    measure_marks();
     measure_judging("64 blocks of arrivals, refused in the last", UNMARKED);
     measure_judging("64 blocks of advances, refused in the last", ADVANCE);
     measure_judging_random("64 blocks of random events, refused in the last");

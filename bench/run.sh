@@ -27,11 +27,12 @@ compile() {
     "$CC" $c_flags -c "$@" -o "$parts/$object.o"
 }
 
-for part in bench/benchmark bench/images bench/pairs bench/turns tools/trace_text \
+for part in bench/benchmark bench/images bench/pairs bench/marks bench/turns tools/trace_text \
     peer/baseline peer/baseline_calls; do
     compile "$(basename "$part")" "$part.c"
 done
-program="$parts/benchmark.o $parts/images.o $parts/pairs.o $parts/turns.o $parts/trace_text.o"
+program="$parts/benchmark.o $parts/images.o $parts/pairs.o $parts/marks.o $parts/turns.o
+    $parts/trace_text.o"
 baseline="$parts/baseline.o $parts/baseline_calls.o"
 
 # Each layout moves all code by 1,040 bytes, which is neither a line of the cache nor a page,

@@ -14,6 +14,7 @@
 #include "damage.h"
 #include "direct.h"
 #include "direct_counters.h"
+#include "direct_marker_cases.h"
 #include "generate.h"
 #include "hold.h"
 #include "image.h"
@@ -83,12 +84,14 @@ static void hold_list(uint64_t index, uint64_t seed, bool aloud)
     hold_reads(index, seed, aloud);
     hold_writes(index, seed, aloud);
     hold_views(index, seed, aloud);
+    hold_markers(index, seed, aloud);
 }
 
 static int compare_all(uint64_t images, uint64_t seed)
 {
     hold_trace_texts();
     hold_cases();
+    hold_marker_cases();
     for (uint64_t index = 0; index < images; index++)
         compare_one(index, seed);
     for (uint64_t index = 0; index < images / IMAGES_PER_LIST; index++)

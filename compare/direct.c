@@ -14,6 +14,9 @@ _Static_assert(sizeof(bilgethrum_decision) == 56 && offsetof(bilgethrum_decision
                && offsetof(bilgethrum_decision, dropped) == 24
                && offsetof(bilgethrum_decision, packet) == 32, "decision");
 _Static_assert(sizeof(bilgethrum_tallies) == 20 && sizeof(bilgethrum_writing) == 16, "numbers");
+_Static_assert(sizeof(bilgethrum_marker) == 8 * BILGETHRUM_MARKER_WORDS
+               && sizeof(bilgethrum_flows) == 68 && offsetof(bilgethrum_flows, each) == 4
+               && sizeof(bilgethrum_marking) == 8, "marker");
 _Static_assert(sizeof(bilgethrum_reading) == 32 && offsetof(bilgethrum_reading, settings) == 16,
                "reading");
 
@@ -24,4 +27,5 @@ void direct_begin(void)
     reads_begin();
     writes_begin();
     views_begin();
+    markers_begin();
 }

@@ -16,6 +16,7 @@ void hold_lines(uint64_t index, uint64_t seed, bool aloud);
 void hold_reads(uint64_t index, uint64_t seed, bool aloud);
 void hold_writes(uint64_t index, uint64_t seed, bool aloud);
 void hold_views(uint64_t index, uint64_t seed, bool aloud);
+void hold_markers(uint64_t index, uint64_t seed, bool aloud);
 
 /* Makes the trace's calls one by one. */
 void hold_trace_by_calls(const char *name, const struct trace *trace);
@@ -25,5 +26,6 @@ void lines_begin(void);
 void reads_begin(void);
 void writes_begin(void);
 void views_begin(void);
+void markers_begin(void);
 
 #endif

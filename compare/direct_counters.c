@@ -3,7 +3,7 @@
 
 #include <stdio.h>
 
-enum { REFUSALS = 33 };
+enum { REFUSALS = 54 };
 
 static const struct {
     const char *name;
@@ -16,6 +16,8 @@ static const struct {
     [CALL_READ] = { "read", { 11, 12, 13, 14, 15, 16, 17, 18, 19, 20 } },
     [CALL_WRITE] = { "write", { 8, 9, 21, 22, 23, 24 } },
     [CALL_VIEW] = { "view", { 1, 31 } },
+    [CALL_OPEN_MARKER] = { "open marker", { 51, 52, 53 } },
+    [CALL_MARK] = { "mark", { 51, 1, 2, 3 } },
 };
 
 static const char *const outcome_names[OUTCOMES] = {
@@ -36,6 +38,22 @@ static const char *const outcome_names[OUTCOMES] = {
     [WRITTEN_WITH_CHECK_ZERO] = "written with a check of 0000",
     [SEEN_IN_MARKED_AREA] = "payload in the marked area, not in the unmarked one",
     [SEEN_BEYOND_4_GIB] = "payload that ends beyond byte 2^32 of its area",
+    [OPENED_BESIDE_WRONG_FLOWS] = "marker opened, flows beyond its count being out of range",
+    [REFUSED_RATE_BEHIND_DEPTH] = "marker refused for a rate, an earlier depth being out of range",
+    [LEFT_UNMARKED] = "left unmarked",
+    [MARKED_AT_THE_DOOR] = "marked",
+    [FILLED_TO_THE_LENGTH] = "left unmarked, the bucket having filled to just the length",
+    [FULL_TO_THE_LENGTH] = "left unmarked, the length being the depth",
+    [A_MILLIONTH_SHORT] = "marked for a millionth of a byte",
+    [A_TICK_SHORT] = "marked for a tick",
+    [LONGER_THAN_THE_DEPTH] = "marked by a full bucket",
+    [FILLED_OVER_A_LONG_SPAN] = "judged more than 65,535,000,000 ticks after the flow's last packet",
+    [FILLED_BEYOND_64_BITS] = "judged where rate times span passes 64 bits",
+    [BOUND_REACHED] = "left unmarked, reaching the bound of a stretch of calls",
+    [REFUSED_TWICE_OVER] = "packet refused that a later test would refuse too",
+    [JUDGED_UNDER_REFUSED_FLOWS] = "judged by what a refused opening opens",
+    [JUDGED_FROM_COPY] = "judged by a copy of a marker",
+    [JUDGED_AFTER_REOPENING] = "judged by a marker opened anew",
 };
 
 static unsigned long long answered[CALL_NAMES][REFUSALS];

@@ -41,7 +41,7 @@ bilgethrum_settings pick_settings(struct random *random)
                                   .ticks_per_byte = pick_ticks(random) };
 }
 
-static uint64_t wild_instant(struct random *random, uint64_t clock)
+uint64_t wild_instant(struct random *random, uint64_t clock)
 {
     switch (random_below(random, 9)) {
     case 0:
@@ -65,7 +65,7 @@ static uint64_t wild_instant(struct random *random, uint64_t clock)
     }
 }
 
-static uint32_t wild_length(struct random *random)
+uint32_t wild_length(struct random *random)
 {
     static const uint32_t some[] = { 0, 0, MOST_LENGTH, MOST_LENGTH + 1, 65536, 65537,
                                      UINT32_C(1) << 31, UINT32_MAX };

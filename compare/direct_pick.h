@@ -31,6 +31,10 @@ struct course pick_course(struct random *random);
 /* Any settings, in range more often than not. */
 bilgethrum_settings pick_settings(struct random *random);
 
+/* Instants and lengths out of range, just in range, or in range once they are cut. */
+uint64_t wild_instant(struct random *random, uint64_t clock);
+uint32_t wild_length(struct random *random);
+
 struct step pick_open(struct random *random, unsigned line);
 
 /* The next step, aimed by the lines as they are. */

@@ -27,6 +27,25 @@ void tell_step(const struct step *step)
     }
 }
 
+void tell_marker_step(const struct marker_step *step)
+{
+    printf("marker %u: ", step->marker);
+    switch (step->kind) {
+    case MARKER_OPEN:
+        printf("opens %" PRIu32 " of", step->flows.count);
+        for (int i = 0; i < MOST_FLOWS; i++)
+            printf(" %" PRIu32 "/%" PRIu32, step->flows.each[i].rate, step->flows.each[i].depth);
+        printf("\n");
+        break;
+    case MARKER_MARK:
+        printf("flow %" PRIu32 ", %" PRIu32 "@%" PRIu64 "\n", step->flow, step->length, step->at);
+        break;
+    case MARKER_COPY:
+        printf("becomes a copy of marker %u\n", step->from);
+        break;
+    }
+}
+
 void tell_arrival(const char *whose, bilgethrum_arrival arrival)
 {
     printf("%s: refusal %" PRIu32 ", number %" PRIu32 ", extra %" PRIu64 "\n", whose,
@@ -47,4 +66,10 @@ void tell_tallies(const char *whose, bilgethrum_tallies tallies)
     printf("%s: T %" PRIu32 " %" PRIu32 " %" PRIu32 " %" PRIu32 " %" PRIu32 "\n", whose,
            tallies.unmarked_admitted, tallies.marked_admitted, tallies.unmarked_started,
            tallies.marked_started, tallies.marked_dropped);
+}
+
+void tell_marking(const char *whose, bilgethrum_marking marking)
+{
+    printf("%s: refusal %" PRIu32 ", marked %" PRIu32 "\n", whose, marking.refusal,
+           marking.marked);
 }

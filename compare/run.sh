@@ -13,7 +13,8 @@ named=${1:-target/staticlib/libbilgethrum.a}
 [ $# -eq 0 ] || shift
 mkdir -p target/compare
 find_archive "$named"
-second='peer/second.c peer/second_line.c peer/second_blocks.c peer/second_columns.c'
+second='peer/second.c peer/second_line.c peer/second_blocks.c peer/second_columns.c
+    peer/second_marker.c'
 compare=
 for part in compare/*.c; do
     case $part in
@@ -30,6 +31,7 @@ with_archive=
     build tracetext tools/tracetext.c tools/trace_text.c peer/second_blocks.c
     build testbench bench/testbench.c "$archive"
     build host bench/host.c "$archive"
+    build door bench/door.c "$archive"
     build all_numbers compare/all_numbers.c "$archive"
     build stack compare/stack.c "$archive"
     build compare $with_archive $compare tools/trace_text.c $second peer/baseline.c "$archive"
@@ -87,6 +89,20 @@ host duty >"$said"
 sed '/^too late:$/,$d' "$said" | grep -q '^R' && failed 'a host in time meets a refusal'
 sed '1,/^too late:$/d' "$said" | grep -qx 'R 5' || failed 'a late host does not meet refusal 5'
 
+# The example door prints its text.  What it hands on is a trace, which the whole run answers in
+# the same words.
+door() {
+    emulated target/compare/door
+}
+door | cmp -s - bench/door.text || failed 'the door prints another text'
+{
+    echo 'alpha 100 ticks 1'
+    sed 's/:.*//; s/.* //' bench/door.text
+} | tool pack >target/compare/door.image
+sed 's/.*: //' bench/door.text >target/compare/door.answers
+bench target/compare/door.image | sed '/^T/d' | cmp -s - target/compare/door.answers ||
+    failed 'the door is answered otherwise than the whole run'
+
 # What cannot be written must be told, with a status other than 0: unwritten STATUS WHAT.
 unwritten() {
     [ "$1" -ne 0 ] || failed "$2 ends well though its output is lost"
@@ -97,6 +113,9 @@ if [ -w /dev/full ]; then
     host >/dev/full 2>"$said" || status=$?
     unwritten $status 'the host with a full disk'
     status=0
+    door >/dev/full 2>"$said" || status=$?
+    unwritten $status 'the door with a full disk'
+    status=0
     bench target/compare/printed.image >/dev/full 2>"$said" || status=$?
     unwritten $status 'the test bench with a full disk'
 fi
@@ -104,12 +123,15 @@ status=0
 host >&- 2>"$said" || status=$?
 unwritten $status 'the host with its output closed'
 status=0
+door >&- 2>"$said" || status=$?
+unwritten $status 'the door with its output closed'
+status=0
 bench target/compare/printed.image >&- 2>"$said" || status=$?
 unwritten $status 'the test bench with its output closed'
 status=0
 bench --expect traces/printed.text target/compare/printed.image >&- 2>"$said" || status=$?
 unwritten $status 'the judging test bench with its output closed'
-printf 'the host and the test bench tell what they cannot write\n'
+printf 'the host, the door and the test bench tell what they cannot write\n'
 
 # What the header says of the stack is said of the archive, and of no sanitizer.
 if [ "$named" != none ] && [ "${SANITIZE:-}" != 1 ]; then

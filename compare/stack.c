@@ -12,6 +12,7 @@ static uint8_t stack[STACK_ROOM];
 static ucontext_t caller;
 
 static bilgethrum_line line;
+static bilgethrum_marker marker;
 static uint8_t image[BILGETHRUM_IMAGE_ENOUGH];
 static size_t image_length;
 static uint8_t answer[BILGETHRUM_ANSWER_ENOUGH];
@@ -20,6 +21,7 @@ static uint32_t lengths[BILGETHRUM_MOST_EVENTS];
 static uint32_t places[BILGETHRUM_MOST_EVENTS];
 static uint64_t instants[BILGETHRUM_MOST_EVENTS];
 static const bilgethrum_settings settings = { .alpha = 100, .ticks_per_byte = 1 };
+static const bilgethrum_flows flows = { .count = 1, .each = { { .rate = 1, .depth = 60 } } };
 
 static void nothing(void)
 {
@@ -48,6 +50,16 @@ static void advance(void)
 static void tally(void)
 {
     bilgethrum_tally(&line);
+}
+
+static void open_marker(void)
+{
+    bilgethrum_open_marker(&marker, flows);
+}
+
+static void mark(void)
+{
+    bilgethrum_mark(&marker, 0, 60, 1000);
 }
 
 static void write_image(void)
@@ -97,7 +109,8 @@ static size_t stack_of(void (*call)(void))
     return sizeof stack - untouched;
 }
 
-/* In this order: a line is opened before it is used, an image written before it is read. */
+/* In this order: a line is opened before it is used, a bucket emptied before it marks, an image
+ * written before it is read. */
 static const struct {
     const char *name;
     void (*call)(void);
@@ -108,6 +121,9 @@ static const struct {
     { "arrive, marked", arrive_marked, BILGETHRUM_STACK_BYTES },
     { "advance", advance, BILGETHRUM_STACK_BYTES },
     { "tally", tally, BILGETHRUM_STACK_BYTES },
+    { "open_marker", open_marker, BILGETHRUM_STACK_BYTES },
+    { "mark, left unmarked", mark, BILGETHRUM_STACK_BYTES },
+    { "mark, marked", mark, BILGETHRUM_STACK_BYTES },
     { "write", write_image, BILGETHRUM_STACK_BYTES },
     { "read", read_image, BILGETHRUM_STACK_BYTES },
     { "view_refusal", view, BILGETHRUM_STACK_BYTES },

@@ -6,8 +6,9 @@
  *
  * Every call takes every number.  It does its job or refuses with one of the numbers
  * below, and a refused call changes no byte of anything lent; only a refused opening
- * still opens its line.  Numbers that an answer has no use for are 0: where a call is
- * refused, all but the refusal, and the block where an image is.
+ * still opens its line or its marker.  Line and marker share the refusals 1, 2 and 3.
+ * Numbers that an answer has no use for are 0: where a call is refused, all but the
+ * refusal, and the block where an image is.
  *
  * Structs.  They are laid out and handed over as the System V ABI for x86-64 says, with
  * no packing pragma or option in force.  The bytes between their members mean nothing:
@@ -15,9 +16,9 @@
  *
  * Memory.  Pointers are valid for the length said, aligned for their type, and never
  * NULL, even with length 0.  What one call may write overlaps nothing else that is
- * lent to the same call.  Nothing is kept between calls but what stands in the line's
- * words.  Calls that share no writable memory may run on different threads; two calls
- * on one line may not run at the same time.
+ * lent to the same call.  Nothing is kept between calls but what stands in the words of
+ * a line or a marker.  Calls that share no writable memory may run on different threads;
+ * two calls on one line, or on one marker, may not run at the same time.
  *
  * Stack.  No call but bilgethrum_run takes more than BILGETHRUM_STACK_BYTES below its
  * caller, and that one no more than BILGETHRUM_RUN_STACK_BYTES. */
@@ -35,7 +36,7 @@ extern "C" {
  * changed or compiled anew, the second where something is added, or less is asked of
  * a host. */
 #define BILGETHRUM_VERSION_MAJOR 1
-#define BILGETHRUM_VERSION_MINOR 1
+#define BILGETHRUM_VERSION_MINOR 2
 
 #define BILGETHRUM_STACK_BYTES 1024
 #define BILGETHRUM_RUN_STACK_BYTES 6144
@@ -47,14 +48,17 @@ extern "C" {
 #define BILGETHRUM_MOST_LENGTH 2048
 #define BILGETHRUM_MOST_INSTANT UINT64_C(1000000000000000)
 #define BILGETHRUM_MOST_WAITING 64 /* of each marking */
+#define BILGETHRUM_MOST_FLOWS 8
+#define BILGETHRUM_MOST_RATE 10000000 /* bytes per 1,000,000 ticks */
+#define BILGETHRUM_MOST_DEPTH 65535 /* bytes */
 
 /* ---- Refusals, each by its number; 0 is none ---- */
 
 enum bilgethrum_refusal {
     BILGETHRUM_NOT_REFUSED = 0,
-    BILGETHRUM_REFUSED_LENGTH = 1,           /* arrive, view: length not 1 to 2,048 */
-    BILGETHRUM_REFUSED_INSTANT = 2,          /* arrive, advance: instant above 10^15 */
-    BILGETHRUM_REFUSED_BEFORE_CLOCK = 3,     /* arrive, advance: instant before that of the last accepted call */
+    BILGETHRUM_REFUSED_LENGTH = 1,           /* arrive, view, mark: length not 1 to 2,048 */
+    BILGETHRUM_REFUSED_INSTANT = 2,          /* arrive, advance, mark: instant above 10^15 */
+    BILGETHRUM_REFUSED_BEFORE_CLOCK = 3,     /* arrive, advance, mark: instant before that of the last accepted call */
     BILGETHRUM_REFUSED_TOO_LONG = 4,         /* arrive, marked: transmission time above alpha */
     BILGETHRUM_REFUSED_OVERDUE = 5,          /* arrive: a decision is due strictly before the instant: advance first */
     BILGETHRUM_REFUSED_ROOM_FULL = 6,        /* arrive: 64 packets of that marking wait */
@@ -76,7 +80,10 @@ enum bilgethrum_refusal {
     BILGETHRUM_REFUSED_EVENT = 23,           /* write: an event that the reader would refuse with 17 or 18 */
     BILGETHRUM_REFUSED_IMAGE_SHORT = 24,     /* write: the lent image is too short */
     BILGETHRUM_REFUSED_OUTSIDE = 31,         /* view: the payload reaches beyond its area */
-    BILGETHRUM_REFUSED_ANSWER_SHORT = 32     /* run: the answer area is shorter than the text; run gives -32 */
+    BILGETHRUM_REFUSED_ANSWER_SHORT = 32,    /* run: the answer area is shorter than the text; run gives -32 */
+    BILGETHRUM_REFUSED_FLOW = 51,            /* open_marker: no flow, or more than 8; mark: a flow that was not opened */
+    BILGETHRUM_REFUSED_RATE = 52,            /* open_marker: a flow's rate not 1 to 10,000,000 */
+    BILGETHRUM_REFUSED_DEPTH = 53            /* open_marker: a flow's depth not 1 to 65,535 */
 };
 
 /* ---- The line: scheduler and waiting room ---- */
@@ -144,6 +151,52 @@ typedef struct bilgethrum_tallies {
 
 /* The five tallies since the opening. */
 bilgethrum_tallies bilgethrum_tally(const bilgethrum_line *line);
+
+/* ---- The marker: a bucket for each flow ---- */
+
+/* What a host holds for each marker, wherever it likes.  The words are the calls' own
+ * business, with one PREMISE: a marker that is handed to bilgethrum_mark comes from
+ * bilgethrum_open_marker and from calls on it, copied or moved as a whole at most.
+ * Nothing is promised of any other words. */
+#define BILGETHRUM_MARKER_WORDS 34
+
+typedef struct bilgethrum_marker {
+    uint64_t words[BILGETHRUM_MARKER_WORDS];
+} bilgethrum_marker;
+
+/* A flow is the packets of one sender.  It has a bucket of bytes, which is full at the
+ * opening and fills again at the rate, up to the depth.  No fraction of a byte is lost. */
+typedef struct bilgethrum_flow {
+    uint32_t rate;  /* bytes per 1,000,000 ticks */
+    uint32_t depth; /* bytes: the most that the bucket holds */
+} bilgethrum_flow;
+
+typedef struct bilgethrum_flows {
+    uint32_t count; /* flows 0 to count - 1 are opened */
+    bilgethrum_flow each[BILGETHRUM_MOST_FLOWS]; /* those from count on mean nothing */
+} bilgethrum_flows;
+
+/* Opens a marker, whatever stood in its words; the clock starts at 0, and every bucket
+ * is full.  Gives the refusal number: 51, else 52 where any flow's rate is out of range,
+ * else 53 where any flow's depth is.  A refused opening opens the marker all the same,
+ * with one flow of rate 1 and depth 1. */
+uint32_t bilgethrum_open_marker(bilgethrum_marker *marker, bilgethrum_flows flows);
+
+typedef struct bilgethrum_marking {
+    uint32_t refusal; /* 0, or 51, 1, 2 or 3, in this order of checking */
+    uint32_t marked;  /* 0 left unmarked and paid for, 1 marked; 0 where refused */
+} bilgethrum_marking;
+
+/* A packet of a flow comes to the door.  It is left unmarked exactly if the flow's
+ * bucket holds its whole length at that instant, and the length is then taken from the
+ * bucket; otherwise it is marked, and nothing is taken.  All flows have one clock: the
+ * instant of the last accepted packet of any flow.
+ *
+ * For every flow and every stretch of accepted calls, 1,000,000 times the bytes left
+ * unmarked is at most 1,000,000 times the depth plus the rate times the span from the
+ * first of the calls to the last. */
+bilgethrum_marking bilgethrum_mark(bilgethrum_marker *marker, uint32_t flow, uint32_t length,
+                                   uint64_t at);
 
 /* ---- Traces: events in columns, images of 512-byte blocks ---- */
 

@@ -3,6 +3,7 @@
 
 #include "baseline.h"
 #include "baseline_host.h"
+#include "baseline_marker.h"
 #include "baseline_traces.h"
 
 uint32_t bilgethrum_open(bilgethrum_line *line, bilgethrum_settings settings)
@@ -23,6 +24,17 @@ bilgethrum_decision bilgethrum_advance(bilgethrum_line *line, uint64_t at)
 bilgethrum_tallies bilgethrum_tally(const bilgethrum_line *line)
 {
     return baseline_host_tally(line);
+}
+
+uint32_t bilgethrum_open_marker(bilgethrum_marker *marker, bilgethrum_flows flows)
+{
+    return baseline_open_marker(marker, flows);
+}
+
+bilgethrum_marking bilgethrum_mark(bilgethrum_marker *marker, uint32_t flow, uint32_t length,
+                                   uint64_t at)
+{
+    return baseline_mark(marker, flow, length, at);
 }
 
 static size_t least(size_t one, size_t other)
