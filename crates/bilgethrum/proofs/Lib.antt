@@ -5,3 +5,4 @@ pub mod Advances
 pub mod Traces
 pub mod Lists
 pub mod Unique
+pub mod Markers

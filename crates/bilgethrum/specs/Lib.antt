@@ -1,3 +1,4 @@
 pub mod Promises
 pub mod Lists
 pub mod Unique
+pub mod Markers

@@ -5,10 +5,14 @@ ghost use Rattle.payload.specs.View.{areaOf};
 ghost use Rattle.block_columns.specs.Columns.{columns};
 ghost use Rattle.run.specs.Text.{textOf};
 ghost use Rattle.run.specs.Ran.{Answers};
+ghost use Rattle.marker.specs.Calls.{callOf};
+ghost use Rattle.marker.specs.Machine.{FromOpening};
 ghost use Rattle.bilgethrum_values.specs.Host.{packetFrom};
 ghost use Rattle.bilgethrum.specs.Promises.{OnLine, keeping, ifAccepted, HostOpens, HostArrives, HostAdvances, tallied, HostReads, HostWrites};
+ghost use Rattle.bilgethrum.specs.Markers.{HostOpensMarker, HostMarks};
 use bilgethrum_values::HostArrival;
 use bilgethrum_values::HostDecision;
+use bilgethrum_values::HostMarking;
 use bilgethrum_values::HostPacket;
 use bilgethrum_values::HostReading;
 use bilgethrum_values::HostSettings;
@@ -16,12 +20,16 @@ use bilgethrum_values::HostTallies;
 use bilgethrum_values::HostWriting;
 use bilgethrum_values::host_arrival;
 use bilgethrum_values::host_decision;
+use bilgethrum_values::host_marking;
 use bilgethrum_values::host_reading;
 use bilgethrum_values::host_tallies;
 use bilgethrum_values::host_writing;
+use bilgethrum_values::marker_refusal_of;
 use bilgethrum_values::packet_from;
 use bilgethrum_values::refusal_of;
 use bilgethrum_values::settings_from;
+use marker::Marker;
+use marker_flows::Flows;
 use room::Room;
 use scheduler_kept::scheduler_in;
 use scheduler_state::Scheduler;
@@ -84,6 +92,30 @@ pub extern "C" fn bilgethrum_tally(line: &Room) -> HostTallies
 {
     let scheduler = scheduler_in(line);
     host_tallies(scheduler.tallies)
+}
+
+// Opens a marker, whatever stood in its words.
+#[no_mangle]
+pub extern "C" fn bilgethrum_open_marker(marker: &mut Marker, flows: Flows) -> u32
+    ensures { λ r. ⌜ HostOpensMarker flows (now (marker .entry)) r (now (marker .exit)) ⌝ }
+{
+    let answer = marker::open(flows, marker);
+    marker_refusal_of(answer)
+}
+
+// A packet at the door is left unmarked or marked. A refusal changes no word.
+#[no_mangle]
+pub extern "C" fn bilgethrum_mark(
+    marker: &mut Marker,
+    flow: u32,
+    length: u32,
+    at: u64,
+) -> HostMarking
+    requires { ⌜ FromOpening (now marker) ⌝ }
+    ensures { λ r. ⌜ HostMarks (now (marker .entry)) (callOf flow length at) r (now (marker .exit)) ⌝ }
+{
+    let answer = marker::mark(flow, Bytes(length), Instant(at), marker);
+    host_marking(answer)
 }
 
 // Reads an image into the columns. A refusal changes no entry.

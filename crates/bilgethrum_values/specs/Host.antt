@@ -1,5 +1,4 @@
 -- What a C host hands over and is handed, in the terms of the calls: numbers that an answer has no use for are 0. Assumes nothing.
-use mathlib.Core.List.{List}
 use mathlib.Core.Option.{Option, none, some}
 use Prim.Native.Nat.{ℕ, min}
 use lib.ListN.{getD}
@@ -14,6 +13,9 @@ use Rattle.block_image.specs.declared.Reading.{Reading}
 use Rattle.block_reader.specs.Values.{readingValues}
 use Rattle.block_writer.specs.declared.Writing.{Writing}
 use Rattle.block_writer.specs.Values.{writingValues}
+use Rattle.marker.specs.declared.Opening.{Opening}
+use Rattle.marker.specs.declared.Answer.{Answer}
+use Rattle.marker.specs.Values.{openingNumber, answerValues}
 use Rattle.bilgethrum_values.specs.declared.HostSettings.{HostSettings}
 use Rattle.bilgethrum_values.specs.declared.HostPacket.{HostPacket}
 use Rattle.bilgethrum_values.specs.declared.HostArrival.{HostArrival}
@@ -21,6 +23,7 @@ use Rattle.bilgethrum_values.specs.declared.HostDecision.{HostDecision}
 use Rattle.bilgethrum_values.specs.declared.HostTallies.{HostTallies}
 use Rattle.bilgethrum_values.specs.declared.HostReading.{HostReading}
 use Rattle.bilgethrum_values.specs.declared.HostWriting.{HostWriting}
+use Rattle.bilgethrum_values.specs.declared.HostMarking.{HostMarking}
 
 -- The settings asked for. Ticks per byte beyond 16 bits count as the most of 16 bits: both are out of range.
 abbrev pub settingsFrom : HostSettings → Settings
@@ -93,3 +96,11 @@ hostReading y =
 -- A write's answer: its refusal, and how many bytes the image takes.
 abbrev pub hostWriting : Writing → HostWriting
 hostWriting y = record { refusal = getD (writingValues y) 0 0; bytes = getD (writingValues y) 1 0 }
+
+-- The number of a marker's opening.
+abbrev pub hostMarkerOpening : Opening → ℕ
+hostMarkerOpening o = openingNumber o
+
+-- The answer to a packet at the door: its refusal, and 1 if it is marked.
+abbrev pub hostMarking : Answer → HostMarking
+hostMarking a = record { refusal = getD (answerValues a) 0 0; marked = getD (answerValues a) 1 0 }

@@ -3,9 +3,10 @@
 ghost use mathlib.Core.Path.{_≡_};
 ghost use Prim.Native.Nat.{min};
 ghost use Rattle.scheduler_answers.specs.Values.{openingNumber};
-ghost use Rattle.bilgethrum_values.specs.Host.{settingsFrom, packetFrom, hostSettings, hostPacket, hostArrival, hostDecision, hostTallies, hostReading, hostWriting, undecided};
+ghost use Rattle.bilgethrum_values.specs.Host.{settingsFrom, packetFrom, hostSettings, hostPacket, hostArrival, hostDecision, hostTallies, hostReading, hostWriting, hostMarkerOpening, hostMarking, undecided};
 use block_image::Reading;
 use block_writer::Writing;
+use marker::Answer;
 use room::Packet;
 use scheduler_answers::Admission;
 use scheduler_answers::Decision;
@@ -70,6 +71,12 @@ pub struct HostReading {
 pub struct HostWriting {
     pub refusal: u32,
     pub bytes: usize,
+}
+
+#[repr(C)]
+pub struct HostMarking {
+    pub refusal: u32,
+    pub marked: u32,
 }
 
 // Ticks per byte beyond 16 bits count as the most of 16 bits, which is out of range too.
@@ -241,6 +248,35 @@ pub fn host_writing(answer: Writing) -> HostWriting
         Writing::Refused { number } => HostWriting {
             refusal: number as u32,
             bytes: 0,
+        },
+    }
+}
+
+// The number of a marker's opening, 0 if it is not refused.
+pub fn marker_refusal_of(answer: marker::Opening) -> u32
+    ensures { λ r. ⌜ r ≡ hostMarkerOpening answer ⌝ }
+{
+    match answer {
+        marker::Opening::Ready => 0,
+        marker::Opening::Refused(number) => number as u32,
+    }
+}
+
+pub fn host_marking(answer: Answer) -> HostMarking
+    ensures { λ r. ⌜ r ≡ hostMarking answer ⌝ }
+{
+    match answer {
+        Answer::Unmarked => HostMarking {
+            refusal: 0,
+            marked: 0,
+        },
+        Answer::Marked => HostMarking {
+            refusal: 0,
+            marked: 1,
+        },
+        Answer::Refused(number) => HostMarking {
+            refusal: number as u32,
+            marked: 0,
         },
     }
 }

@@ -62,14 +62,14 @@ stands-opened asked lent z =
 
 -- From any words that stand for a marker.
 module _ (σ : Terms) where
-  told-from : (w : Words) (s : Marker) (cs : List Call) → Stands σ w s → Fit σ s → toldBy w cs ≡ told σ s cs
+  pub told-from : (w : Words) (s : Marker) (cs : List Call) → Stands σ w s → Fit σ s → toldBy w cs ≡ told σ s cs
   unfolding toldBy told
   told-from w s [] k fit = refl
   told-from w s (c ∷ cs) k fit =
       let a = agrees σ w s k fit c in
       rw (a .answer, told-from (markWords w c) (step σ s c .marker) cs (a .stands) (fit-step σ s c fit))
 
-  stands-from : (w : Words) (s : Marker) (cs : List Call) → Stands σ w s → Fit σ s → Stands σ (wordsAfter w cs) (after σ s cs)
+  pub stands-from : (w : Words) (s : Marker) (cs : List Call) → Stands σ w s → Fit σ s → Stands σ (wordsAfter w cs) (after σ s cs)
   unfolding wordsAfter after
   stands-from w s [] k fit = k
   stands-from w s (c ∷ cs) k fit = stands-from (markWords w c) (step σ s c .marker) cs (agrees σ w s k fit c .stands) (fit-step σ s c fit)
