@@ -75,6 +75,7 @@ static uint32_t open_pair(struct pair *pair, const struct marker_step *step)
     memset(pair->last, 0, sizeof pair->last);
     pair->past.count = 0;
     pair->refused_flows = wanted != 0;
+    pair->copied = false;
     return given;
 }
 
@@ -172,7 +173,6 @@ static void begin_list(unsigned markers, uint64_t index, struct random *random)
         for (int word = 0; word < BILGETHRUM_MARKER_WORDS; word++)
             marker_of(pair)->words[word] = random_next(random);
         pair->reopened = false;
-        pair->copied = false;
     }
 }
 
