@@ -13,7 +13,7 @@ use Rattle.marker_flows.specs.declared.Flows.{Flows}
 use Rattle.marker_flows.specs.Flows.{flowsMost, openTests, flowsOf}
 use Rattle.marker_rules.specs.Terms.{Terms, termsOf}
 use Rattle.marker_rules.specs.Step.{Call, Marker, fresh, step, after}
-use Rattle.marker_rules.specs.Told.{Told, told}
+use Rattle.marker_rules.specs.Told.{told}
 use Rattle.marker_rules.specs.Open.{opened}
 use Rattle.marker_rules.proofs.Opens.{numbered, opens-sound}
 use Rattle.marker_rules.proofs.Turns.{lasting-fresh, lasting-step, lasting-after}

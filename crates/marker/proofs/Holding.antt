@@ -12,23 +12,29 @@ use Rattle.marker_flows.specs.Flows.{flowsMost, noFlow}
 use Rattle.marker_rules.specs.Terms.{Terms, flowAt}
 use Rattle.marker_rules.specs.Bucket.{Bucket, full}
 use Rattle.marker_rules.specs.Step.{Marker, bucketAt}
-use Rattle.marker.specs.Words.{Words, Sized, clockIn, countIn, heldIn, lookedIn, holding}
+use Rattle.marker.specs.Words.{Words, Sized, clockIn, rateIn, topIn, heldIn, lookedIn, holding}
 use Rattle.marker.specs.Stands.{FlowStands, Stands}
 
 module _ (w : Words) (f x t : ℕ) where
-  -- The words between the clock and what the bucket held stay, whatever flow they are of.
+  -- A word that is none of the three stays: so do the limits of every flow.
   untouched : (j : ℕ) → (j ≡ 0 → ⊥) → (j ≡ 4 + 4 * f → ⊥) → (j ≡ 5 + 4 * f → ⊥) → getD (holding w f x t) j 0 ≡ getD w j 0
   untouched j a b c =
       getD-set-other (set (set w 0 t) (4 + 4 * f) x) (5 + 4 * f) j t 0 c
       ∙ getD-set-other (set w 0 t) (4 + 4 * f) j x 0 b
       ∙ getD-set-other w 0 j t 0 a
 
+  rate-stays : (g : ℕ) → rateIn (holding w f x t) g ≡ rateIn w g
+  rate-stays g = untouched (2 + 4 * g) (λ e. omega arith) (λ e. omega arith) (λ e. omega arith)
+
+  top-stays : (g : ℕ) → topIn (holding w f x t) g ≡ topIn w g
+  top-stays g = untouched (3 + 4 * g) (λ e. omega arith) (λ e. omega arith) (λ e. omega arith)
+
   -- Another flow's words.
   other : (g : ℕ) (y : Flow) (b : Bucket) → (g ≡ f → ⊥) → FlowStands w g y b → FlowStands (holding w f x t) g y b
   other g y b apart k =
       record {
-        rate = untouched (2 + 4 * g) (λ e. omega arith) (λ e. omega arith) (λ e. omega arith) ∙ k .rate;
-        top = untouched (3 + 4 * g) (λ e. omega arith) (λ e. omega arith) (λ e. omega arith) ∙ k .top;
+        rate = rate-stays g ∙ k .rate;
+        top = top-stays g ∙ k .top;
         held = untouched (4 + 4 * g) (λ e. omega arith) (λ e. apart (omega arith)) (λ e. omega arith) ∙ k .held;
         looked = untouched (5 + 4 * g) (λ e. omega arith) (λ e. omega arith) (λ e. apart (omega arith)) ∙ k .looked;
       }
@@ -46,8 +52,8 @@ module _ (w : Words) (f x t : ℕ) where
     own : (y : Flow) (b c : Bucket) → FlowStands w f y b → c .held ≡ x → c .looked ≡ t → FlowStands (holding w f x t) f y c
     own y b c k d e =
         record {
-          rate = untouched (2 + 4 * f) (λ e. omega arith) (λ e. omega arith) (λ e. omega arith) ∙ k .rate;
-          top = untouched (3 + 4 * f) (λ e. omega arith) (λ e. omega arith) (λ e. omega arith) ∙ k .top;
+          rate = rate-stays f ∙ k .rate;
+          top = top-stays f ∙ k .top;
           held = held-now ∙ sym d;
           looked = looked-now ∙ sym e;
         }

@@ -20,7 +20,7 @@ use Rattle.marker.specs.Calls.{laidOne, laid, laidAll}
 use Rattle.marker.specs.Stands.{FlowStands, Stands}
 
 -- The flows one after the other.
-pub laid-append : (w : Words) (i : ℕ) (xs ys : List Flow) → laid w i (xs ++ ys) ≡ laid (laid w i xs) (i + length xs) ys
+laid-append : (w : Words) (i : ℕ) (xs ys : List Flow) → laid w i (xs ++ ys) ≡ laid (laid w i xs) (i + length xs) ys
 laid-append w i [] ys = rw (add-zero i)
 laid-append w i (x ∷ xs) ys = rw (add-suc i (length xs), ← suc-add i (length xs)) (laid-append (laidOne w i x) (suc i) xs ys)
 
@@ -33,7 +33,13 @@ pub laid-more : (w m : Words) (i : ℕ) (each : List Flow) → m ≡ laid w 0 (f
     → laidOne m i (getD each i noFlow) ≡ laid w 0 (firstFlows (i + 1) each)
 unfolding rows
 laid-more w m i each e =
-    rw (e, add-one i, laid-append w 0 (firstFlows i each) (getD each i noFlow ∷ []), zero-add (length (firstFlows i each)), length-tab i (λ k. getD each k noFlow))
+    rw (
+      e,
+      add-one i,
+      laid-append w 0 (firstFlows i each) (getD each i noFlow ∷ []),
+      zero-add (length (firstFlows i each)),
+      length-tab i (λ k. getD each k noFlow),
+    )
 
 pub laid-done : (w m : Words) (count i : ℕ) (each : List Flow) → i ≤ count → count ≤ i → m ≡ laid (set (set w 0 0) 1 count) 0 (firstFlows i each)
     → m ≡ laidAll w (firstFlows count each)
@@ -45,6 +51,7 @@ laid-length : (w : Words) (i : ℕ) (xs : List Flow) → length (laid w i xs) �
 laid-length w i [] = refl
 laid-length w i (x ∷ xs) = laid-length (laidOne w i x) (suc i) xs ∙ simp length-set
 
+-- A flow's words, store by store.
 module _ (w : Words) (f : ℕ) (x : Flow) where
   abbrev w1 : Words
   w1 = set w (2 + 4 * f) (x .rate)
@@ -85,12 +92,14 @@ laid-before : (w : Words) (i : ℕ) (xs : List Flow) (j : ℕ) → j < 2 + 4 * i
 laid-before w i [] j h = refl
 laid-before w i (x ∷ xs) j h = laid-before (laidOne w i x) (suc i) xs j (omega arith) ∙ one-before w i x j h
 
+-- Each flow's words are its limits and a full bucket.
 laid-there : (w : Words) (i : ℕ) (xs : List Flow) (f : ℕ) → f < length xs → 2 + 4 * (i + length xs) ≤ length w
     → FlowStands (laid w i xs) (i + f) (getD xs f noFlow) (full (getD xs f noFlow))
 laid-there w i [] f h l = absurd (omega arith)
 laid-there w i (x ∷ xs) zero h l =
     let k = one-there w i x (omega arith) in
-    let before : (j : ℕ) → j < 6 + 4 * i → getD (laid w i (x ∷ xs)) j 0 ≡ getD (laidOne w i x) j 0 = λ j d. laid-before (laidOne w i x) (suc i) xs j (omega arith) in
+    let before : (j : ℕ) → j < 6 + 4 * i → getD (laid w i (x ∷ xs)) j 0 ≡ getD (laidOne w i x) j 0 =
+    λ j d. laid-before (laidOne w i x) (suc i) xs j (omega arith) in
     rw (add-zero i)
     (record {
       rate = before (2 + 4 * i) (omega arith) ∙ k .rate;

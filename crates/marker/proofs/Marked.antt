@@ -1,5 +1,5 @@
 -- One packet: the code's answer is the rules', and the words that it leaves stand for the rules' next marker. Assumes nothing.
-use mathlib.Core.Path.{_≡_, refl, sym, ap, subst, _∙_}
+use mathlib.Core.Path.{_≡_, refl, sym, ap, _∙_}
 use mathlib.Core.Bool.{Bool, true, false, cond}
 use mathlib.Core.List.{List}
 use mathlib.Core.Option.{Option, none, some}
@@ -20,7 +20,8 @@ use Rattle.marker_rules.proofs.Laws.{looked-then}
 use Rattle.marker_rules.proofs.Turns.{Lasting}
 use Rattle.marker.specs.declared.Answer.{Answer}
 use Rattle.marker.specs.Words.{Words, clockIn, countIn}
-use Rattle.marker.specs.Calls.{refusalIn, levelIn, Lookable, holdsIn, heldThen, marking, markOf, markingWords, markWords}
+use Rattle.marker.specs.Lookable.{Lookable}
+use Rattle.marker.specs.Calls.{refusalIn, levelIn, holdsIn, heldThen, marking, markOf, markingWords, markWords}
 use Rattle.marker.specs.Values.{answerRead}
 use Rattle.marker.specs.Stands.{Stands}
 use Rattle.marker.proofs.Holding.{stands-held}

@@ -1,6 +1,6 @@
 -- The two calls from their definitions: what each gives is by the rules, and the premise is kept. Assumes nothing.
 use mathlib.Core.Path.{_≡_, refl, sym, ap, _∙_}
-use mathlib.Core.Bool.{Bool, true, false, cond}
+use mathlib.Core.Bool.{Bool, true, false}
 use mathlib.Core.List.{List, [], _∷_, _++_}
 use mathlib.Core.Option.{Option, none, some}
 use Prim.Native.Nat.{ℕ, _*_, _-_, _≤_, _<_}
@@ -19,12 +19,14 @@ use Rattle.marker_rules.specs.Terms.{Terms}
 use Rattle.marker_rules.specs.Bucket.{million}
 use Rattle.marker_rules.specs.Step.{Call, Marker, fresh, step, after}
 use Rattle.marker_rules.specs.Open.{opened}
+use Rattle.marker_rules.specs.Open as rules
 use Rattle.marker_rules.proofs.Opens.{numbered, opens-in-range, opens-sound}
 use Rattle.marker.specs.declared.Opening.{Opening}
 use Rattle.marker.specs.declared.Answer.{Answer}
-use Rattle.marker.specs.Words.{Words, Sized, holding}
-use Rattle.marker.specs.Calls.{laidAll, openRefusal, opening, openOf, openWords, refusalIn, levelIn, Lookable, holdsIn, heldThen, marking, markOf, markingWords, markWords}
-use Rattle.marker.specs.Values.{openingNumber, answerRead}
+use Rattle.marker.specs.Words.{Words, holding}
+use Rattle.marker.specs.Lookable.{Lookable}
+use Rattle.marker.specs.Calls.{laidAll, openRefusal, opening, openOf, openWords, refusalIn, levelIn, holdsIn, marking, markOf, markingWords, markWords}
+use Rattle.marker.specs.Values.{openingNumber}
 use Rattle.marker.specs.Machine.{wordsAfter, FromOpening, termsBy, markerBy}
 use Rattle.marker.specs.Promises.{Opens, Steps, Marks}
 use Rattle.marker.proofs.Marked.{agrees, lookable}
@@ -37,7 +39,7 @@ number-by ws (some n) e =
     let some-number = given (λ (n : ℕ). 1 ≤ n) (openTests ws) n (numbered ws) e in
     rw (ne-eqb n 0 (λ z. omega arith))
 
-pub opens : (asked : Flows) (before : Words) (r : Opening) (left : Words) → r ≡ openOf asked → left ≡ openWords asked before
+opens : (asked : Flows) (before : Words) (r : Opening) (left : Words) → r ≡ openOf asked → left ≡ openWords asked before
     → Opens asked before r left
 unfolding wordsAfter after
 opens asked before r left e f =
@@ -50,13 +52,14 @@ opens asked before r left e f =
       stands = λ z. sym (opens-sound (flowsOf asked) .2);
     }
 
--- What it does once it has the refusal number.
+-- What an opening does once it has its refusal number.
 module _ (asked : Flows) (n : ℕ) (e : n ≡ openRefusal asked) where
-  -- There is a word for every flow that is opened.
+  -- Where it is not refused, there are words for every flow.
   pub open-fits : n ≡ 0 → asked .count ≤ flowsMost
   open-fits z =
       let ws = flowsOf asked in
-      let taken = opens-in-range ws .0 (sym (number-by ws (firstOf (openTests ws)) refl) ∙ ap (λ (n : ℕ). openingNumber (opening n)) (sym e ∙ z)) in
+      let number : rules.opening ws .number ≡ 0 = sym (number-by ws _ refl) ∙ ap (λ (n : ℕ). openingNumber (opening n)) (sym e ∙ z) in
+      let taken = opens-in-range ws .0 number in
       omega (arith, taken .most, length-tab (asked .count) (λ i. getD (asked .each) i noFlow))
 
   pub open-refuses : (n ≡ 0 → ⊥) → (before left : Words) → left ≡ laidAll before (flowsOf (record { count = 1; each = replicate flowsMost leastFlow }))
@@ -112,7 +115,7 @@ module _ (w : Words) (o : FromOpening w) (c : Call) where
         stands = marker-more (termsBy o) (fresh (termsBy o)) (o .calls) c;
       }
 
-pub marks : (w : Words) (c : Call) (r : Answer) (left : Words) → FromOpening w → r ≡ markOf w c → left ≡ markWords w c → Marks w c r left
+marks : (w : Words) (c : Call) (r : Answer) (left : Words) → FromOpening w → r ≡ markOf w c → left ≡ markWords w c → Marks w c r left
 marks w c r left o e f =
     record {
       value = e;
@@ -122,7 +125,7 @@ marks w c r left o e f =
       refusal = λ n i. f ∙ refusal-leaves w c n (sym e ∙ i);
     }
 
--- What it does once it has the refusal number.
+-- What a packet is answered once its refusal number is known.
 module _ (w : Words) (c : Call) (o : FromOpening w) (n : ℕ) (e : n ≡ refusalIn w c) where
   -- The bucket may be looked at where the packet is not refused.
   pub mark-looks : n ≡ 0 → Lookable w (c .flow) (c .at)

@@ -1,17 +1,16 @@
 -- What each call gives, and what it leaves in the words: exactly, for accepted and refused calls alike. Assumes nothing.
 use mathlib.Core.Bool.{Bool, cond}
 use mathlib.Core.List.{List, [], _∷_}
-use Prim.Native.Nat.{ℕ, suc, _+_, _*_, _-_, _≤_, _<_}
+use Prim.Native.Nat.{ℕ, suc, _+_, _*_, _-_}
 use lib.Dec.{leb, eqb}
 use lib.ListN.{length, set}
 use Rattle.refusals.specs.First.{firstOf, numberOf}
 use Rattle.units.specs.Limits.{lengthMost, instantMost}
 use Rattle.marker_flows.specs.declared.Flow.{Flow}
 use Rattle.marker_flows.specs.declared.Flows.{Flows}
-use Rattle.marker_flows.specs.Flows.{flowsMost, openTests, leastFlow, flowsOf}
+use Rattle.marker_flows.specs.Flows.{openTests, leastFlow, flowsOf}
 use Rattle.marker_rules.specs.Bucket.{million, topOf, filledTo}
 use Rattle.marker_rules.specs.Step.{Call, packetTests}
-use Rattle.marker_bucket.specs.Fillable.{Fillable}
 use Rattle.marker.specs.declared.Opening.{Opening}
 use Rattle.marker.specs.declared.Answer.{Answer}
 use Rattle.marker.specs.Words.{Words, clockIn, countIn, rateIn, topIn, heldIn, lookedIn, holding}
@@ -58,12 +57,6 @@ refusalIn w c = numberOf (firstOf (packetTests (countIn w) lengthMost instantMos
 -- What flow f's bucket holds at t.
 abbrev pub levelIn : Words → (f t : ℕ) → ℕ
 levelIn w f t = filledTo (topIn w f) (heldIn w f) (rateIn w f) (t - lookedIn w f)
-
--- What its numbers keep to, so that no step of that wraps.
-pub record Lookable (w : Words) (f t : ℕ) : Type 0 where
-  pub opened : f < flowsMost
-  pub fillable : Fillable (topIn w f) (heldIn w f) (rateIn w f)
-  pub past : lookedIn w f ≤ t
 
 -- The bucket holds the packet's whole length.
 abbrev pub holdsIn : Words → Call → Bool

@@ -1,4 +1,5 @@
 pub mod Words
+pub mod Lookable
 pub mod Calls
 pub mod Values
 pub mod Machine

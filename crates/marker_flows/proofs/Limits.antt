@@ -45,7 +45,8 @@ module _ (each : List Flow) where
     -- One flow more.
     any-more : (out : Flow → Bool) → anyOut out (firstFlows (i + 1) each) ≡ (anyOut out (firstFlows i each) || out here)
     unfolding rows
-    any-more out = rw (add-one i) (any-append out (firstFlows i each) (here ∷ []) ∙ ap (λ (b : Bool). anyOut out (firstFlows i each) || b) (or-no (out here)))
+    any-more out =
+        rw (add-one i) (any-append out (firstFlows i each) (here ∷ []) ∙ ap (λ (b : Bool). anyOut out (firstFlows i each) || b) (or-no (out here)))
 
     -- Its rate is out of range.
     pub rate-stops : (count : ℕ) → i < count → rateOut here ≡ true → 52 ≡ numberOf (firstOf (limitTests (firstFlows count each)))
@@ -59,7 +60,10 @@ module _ (each : List Flow) where
 
       pub depth-in : (m : ℕ) → m ≡ n → depthOut here ≡ false → Looked (i + 1) m
       depth-in m f d =
-          record { rates = rates-more; number = f ∙ k .number ∙ rw (rates-more, any-more depthOut, k .rates, d, or-no (anyOut depthOut (firstFlows i each))) }
+          record {
+            rates = rates-more;
+            number = f ∙ k .number ∙ rw (rates-more, any-more depthOut, k .rates, d, or-no (anyOut depthOut (firstFlows i each)));
+          }
 
       pub depth-out : (m : ℕ) → m ≡ 53 → depthOut here ≡ true → Looked (i + 1) m
       depth-out m f d =

@@ -11,13 +11,15 @@ lay-requires : tie.Need-lay-requires
 lay-requires c κs = search needs
 
 returns : tie.Need-returns
-returns c = open-refuses (c .before .before .before .before .args .asked) _ (c .before .before .before .flows-refusal .ensures) (c .before .before .if1 .taken) _ _ (c .lay .ensures)
+returns c =
+    open-refuses (c .before .before .before .before .args .asked) _ (c .before .before .before .flows-refusal .ensures) (c .before .before .if1 .taken) _ _ (c .lay .ensures)
 
 lay-requires-2 : tie.Need-lay-requires-2
 lay-requires-2 c κs = open-fits (c .before .before .before .args .asked) _ (c .before .before .flows-refusal .ensures) (c .before .if1 .left)
 
 returns-2 : tie.Need-returns-2
-returns-2 c = open-takes (c .before .before .before .before .args .asked) _ (c .before .before .before .flows-refusal .ensures) (c .before .before .if1 .left) _ _ (c .lay2 .ensures)
+returns-2 c =
+    open-takes (c .before .before .before .before .args .asked) _ (c .before .before .before .flows-refusal .ensures) (c .before .before .if1 .left) _ _ (c .lay2 .ensures)
 
 pub open-spec : {M : Type 1} → statement M
 open-spec =
