@@ -2,7 +2,7 @@
 use mathlib.Core.Path.{_≡_}
 use mathlib.Core.List.{List}
 use Prim.Native.Nat.{ℕ, _+_, _*_}
-use lib.ListN.{length, getD, set}
+use lib.ListN.{length, getD, set, replicate}
 use Rattle.marker_flows.specs.Flows.{flowsMost}
 
 -- The words.
@@ -15,6 +15,11 @@ markerWords = 2 + 4 * flowsMost
 
 abbrev pub Sized : Words → Type 0
 Sized w = length w ≡ markerWords
+
+-- Words to lend: zeros, though whatever stands in them counts for nothing.
+pub record Empty (w : Words) : Type 0 where
+  pub words : w ≡ replicate markerWords 0
+  pub sized : Sized w
 
 -- The instant of the last accepted call.
 abbrev pub clockIn : Words → ℕ

@@ -6,7 +6,7 @@ ghost use Rattle.refusals.specs.First.{firstOf, numberOf};
 ghost use Rattle.units.specs.Limits.{lengthMost, instantMost};
 ghost use Rattle.marker_flows.specs.Flows.{flowsMost, flowsOf};
 ghost use Rattle.marker_rules.specs.Step.{packetTests};
-ghost use Rattle.marker.specs.Words.{holding};
+ghost use Rattle.marker.specs.Words.{Empty, holding};
 ghost use Rattle.marker.specs.Lookable.{Lookable};
 ghost use Rattle.marker.specs.Calls.{callOf, levelIn, laidOne, laidAll};
 ghost use Rattle.marker.specs.Machine.{FromOpening};
@@ -39,6 +39,13 @@ const FLOW_WORDS: usize = 4;
 const WORDS: usize = RATE + FLOWS_MOST * FLOW_WORDS;
 
 pub type Marker = [u64; WORDS];
+
+// Words to lend; whatever stands in them counts for nothing.
+pub fn empty() -> Marker
+    ensures { λ r. ⌜ Empty r ⌝ }
+{
+    [0u64; WORDS]
+}
 
 // The answer to an opening. A refusal bears the request's number, here and below.
 pub enum Opening {
