@@ -18,6 +18,7 @@ use Rattle.marker.specs.Stands.{FlowStands, Stands}
 module _ (w : Words) (f x t : ℕ) where
   -- A word that is none of the three stays: so do the limits of every flow.
   untouched : (j : ℕ) → (j ≡ 0 → ⊥) → (j ≡ 4 + 4 * f → ⊥) → (j ≡ 5 + 4 * f → ⊥) → getD (holding w f x t) j 0 ≡ getD w j 0
+  unfolding holding
   untouched j a b c =
       getD-set-other (set (set w 0 t) (4 + 4 * f) x) (5 + 4 * f) j t 0 c
       ∙ getD-set-other (set w 0 t) (4 + 4 * f) j x 0 b
@@ -42,11 +43,13 @@ module _ (w : Words) (f x t : ℕ) where
   -- The flow's own words.
   module _ (z : Sized w) (h : f < flowsMost) where
     held-now : heldIn (holding w f x t) f ≡ x
+    unfolding holding
     held-now =
         getD-set-other (set (set w 0 t) (4 + 4 * f) x) (5 + 4 * f) (4 + 4 * f) t 0 (λ e. omega arith)
         ∙ getD-set-same (set w 0 t) (4 + 4 * f) x 0 (simp length-set (omega arith))
 
     looked-now : lookedIn (holding w f x t) f ≡ t
+    unfolding holding
     looked-now = getD-set-same (set (set w 0 t) (4 + 4 * f) x) (5 + 4 * f) t 0 (simp length-set (omega arith))
 
     own : (y : Flow) (b c : Bucket) → FlowStands w f y b → c .held ≡ x → c .looked ≡ t → FlowStands (holding w f x t) f y c
@@ -59,10 +62,15 @@ module _ (w : Words) (f x t : ℕ) where
         }
 
     clock-now : clockIn (holding w f x t) ≡ t
+    unfolding holding
     clock-now =
         getD-set-other (set (set w 0 t) (4 + 4 * f) x) (5 + 4 * f) 0 t 0 (λ e. omega arith)
         ∙ getD-set-other (set w 0 t) (4 + 4 * f) 0 x 0 (λ e. omega arith)
         ∙ getD-set-same w 0 t 0 (omega arith)
+
+held-length : (w : Words) (f x t : ℕ) → length (holding w f x t) ≡ length w
+unfolding holding
+held-length w f x t = simp length-set
 
 -- The words stand for the marker whose clock is t and whose flow f has this bucket.
 pub stands-held : (σ : Terms) (w : Words) (s : Marker) (f t : ℕ) (b : Bucket) → Stands σ w s → length (s .buckets) ≡ length (σ .flows)
@@ -70,7 +78,7 @@ pub stands-held : (σ : Terms) (w : Words) (s : Marker) (f t : ℕ) (b : Bucket)
     → Stands σ (holding w f (b .held) t) (record { clock = t; buckets = set (s .buckets) f b })
 stands-held σ w s f t b k n h m e =
     record {
-      sized = simp length-set (k .sized);
+      sized = held-length w f (b .held) t ∙ k .sized;
       clock = clock-now w f (b .held) t (k .sized) (omega arith);
       count = untouched w f (b .held) t 1 (λ e. omega arith) (λ e. omega arith) (λ e. omega arith) ∙ k .count;
       flows = λ g l. by g l (eqb g f) refl;

@@ -47,9 +47,13 @@ laid-done w m count i each a b e =
     let same : i ≡ count = omega arith in
     rw (length-tab count (λ k. getD each k noFlow)) (e ∙ ap (λ (k : ℕ). laid (set (set w 0 0) 1 count) 0 (firstFlows k each)) same)
 
+one-length : (w : Words) (f : ℕ) (x : Flow) → length (laidOne w f x) ≡ length w
+unfolding laidOne
+one-length w f x = simp length-set
+
 laid-length : (w : Words) (i : ℕ) (xs : List Flow) → length (laid w i xs) ≡ length w
 laid-length w i [] = refl
-laid-length w i (x ∷ xs) = laid-length (laidOne w i x) (suc i) xs ∙ simp length-set
+laid-length w i (x ∷ xs) = laid-length (laidOne w i x) (suc i) xs ∙ one-length w i x
 
 -- A flow's words, store by store.
 module _ (w : Words) (f : ℕ) (x : Flow) where
@@ -63,6 +67,7 @@ module _ (w : Words) (f : ℕ) (x : Flow) where
   w3 = set w2 (4 + 4 * f) (topOf x)
 
   one-before : (j : ℕ) → j < 2 + 4 * f → getD (laidOne w f x) j 0 ≡ getD w j 0
+  unfolding laidOne
   one-before j h =
       getD-set-other w3 (5 + 4 * f) j 0 0 (λ e. omega arith)
       ∙ getD-set-other w2 (4 + 4 * f) j (topOf x) 0 (λ e. omega arith)
@@ -70,6 +75,7 @@ module _ (w : Words) (f : ℕ) (x : Flow) where
       ∙ getD-set-other w (2 + 4 * f) j (x .rate) 0 (λ e. omega arith)
 
   one-there : 5 + 4 * f < length w → FlowStands (laidOne w f x) f x (full x)
+  unfolding laidOne
   one-there h =
       record {
         rate =
@@ -108,7 +114,7 @@ laid-there w i (x ∷ xs) zero h l =
       looked = before (5 + 4 * i) (omega arith) ∙ k .looked;
     })
 laid-there w i (x ∷ xs) (suc f) h l =
-    rw (add-suc i f, ← suc-add i f) (laid-there (laidOne w i x) (suc i) xs f (omega arith) (simp length-set (omega arith)))
+    rw (add-suc i f, ← suc-add i f) (laid-there (laidOne w i x) (suc i) xs f (omega arith) (omega (arith, one-length w i x)))
 
 -- They stand for the fresh marker.
 pub stands-laid : (w : Words) (xs : List Flow) → Sized w → length xs ≤ flowsMost → Stands (termsOf xs) (laidAll w xs) (fresh (termsOf xs))

@@ -16,7 +16,7 @@ use Rattle.marker.specs.declared.Answer.{Answer}
 use Rattle.marker.specs.Words.{Words, clockIn, countIn, rateIn, topIn, heldIn, lookedIn, holding}
 
 -- OPEN. A flow's words, with a full bucket that was looked at at 0.
-abbrev pub laidOne : Words → (f : ℕ) → Flow → Words
+unfoldable pub laidOne : Words → (f : ℕ) → Flow → Words
 laidOne w f x = set (set (set (set w (2 + 4 * f) (x .rate)) (3 + 4 * f) (topOf x)) (4 + 4 * f) (topOf x)) (5 + 4 * f) 0
 
 -- The words of these flows, the first of them as flow i.

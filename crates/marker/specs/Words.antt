@@ -46,5 +46,5 @@ abbrev pub lookedIn : Words → (f : ℕ) → ℕ
 lookedIn w f = getD w (5 + 4 * f) 0
 
 -- The words once a packet of flow f was accepted at t, and its bucket holds x since.
-abbrev pub holding : Words → (f x t : ℕ) → Words
+unfoldable pub holding : Words → (f x t : ℕ) → Words
 holding w f x t = set (set (set w 0 t) (4 + 4 * f) x) (5 + 4 * f) t
