@@ -32,17 +32,19 @@ laidAll w xs = laid (set (set w 0 0) 1 (length xs)) 0 xs
 abbrev pub openRefusal : Flows → ℕ
 openRefusal asked = numberOf (firstOf (openTests (flowsOf asked)))
 
--- The answer to an opening.
+-- The answer by that number.
 abbrev pub opening : (refusal : ℕ) → Opening
 opening n = cond (eqb n 0) Opening.Ready (Opening.Refused n)
 
+-- An opening: the answer.
 abbrev pub openOf : Flows → Opening
 openOf asked = opening (openRefusal asked)
 
--- The words at exit: for the flows asked for, or for one at its least where they are refused.
+-- The words by that number: for the flows asked for, or for one at its least where they are refused.
 abbrev pub openingWords : (refusal : ℕ) → Flows → Words → Words
 openingWords n asked w = cond (eqb n 0) (laidAll w (flowsOf asked)) (laidAll w (leastFlow ∷ []))
 
+-- An opening: the words at exit.
 unfoldable pub openWords : Flows → Words → Words
 openWords asked w = openingWords (openRefusal asked) asked w
 
@@ -66,17 +68,19 @@ holdsIn w c = leb (million * c .len) (levelIn w (c .flow) (c .at))
 abbrev pub heldThen : (unmarked : Bool) → (level len : ℕ) → ℕ
 heldThen unmarked level len = cond unmarked (level - million * len) level
 
--- The answer to a packet.
+-- The answer by the refusal number and by whether the bucket holds it.
 abbrev pub marking : (refusal : ℕ) → (unmarked : Bool) → Answer
 marking n unmarked = cond (eqb n 0) (cond unmarked Answer.Unmarked Answer.Marked) (Answer.Refused n)
 
+-- A packet: the answer.
 unfoldable pub markOf : Words → Call → Answer
 markOf w c = marking (refusalIn w c) (holdsIn w c)
 
--- The words at exit. Every refusal leaves them as they were.
+-- Every refusal leaves the words as they were.
 abbrev pub markingWords : (refusal : ℕ) → (unmarked : Bool) → Words → Call → Words
 markingWords n unmarked w c =
     cond (eqb n 0) (holding w (c .flow) (heldThen unmarked (levelIn w (c .flow) (c .at)) (c .len)) (c .at)) w
 
+-- A packet: the words at exit.
 unfoldable pub markWords : Words → Call → Words
 markWords w c = markingWords (refusalIn w c) (holdsIn w c) w c

@@ -9,10 +9,11 @@ use Rattle.marker_flows.specs.Flows.{flowsMost}
 abbrev pub Words : Type 0
 Words = List ℕ
 
--- There are as many as the calls lend.
+-- How many there are.
 abbrev pub markerWords : ℕ
 markerWords = 2 + 4 * flowsMost
 
+-- As many as the calls lend.
 abbrev pub Sized : Words → Type 0
 Sized w = length w ≡ markerWords
 
