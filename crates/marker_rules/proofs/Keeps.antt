@@ -2,21 +2,25 @@
 use mathlib.Core.Path.{_≡_, refl, ap}
 use mathlib.Core.Bool.{Bool, true, false}
 use mathlib.Core.List.{List}
-use Prim.Native.Nat.{ℕ}
+use Prim.Native.Nat.{ℕ, _*_}
 use native.Mathlib.Omega.{arith}
+use borrow.Author.Tests.{lt-leb}
 use Rattle.marker_rules.specs.Terms.{Terms, flowAt}
-use Rattle.marker_rules.specs.Bucket.{Bucket, holds}
+use Rattle.marker_rules.specs.Bucket.{Bucket, million, levelOf, holds}
 use Rattle.marker_rules.specs.Step.{Call, refused, Marker, Outcome, bucketAt, answerBy, fresh}
 use Rattle.marker_rules.specs.Told.{told, ofFlow}
 use Rattle.marker_rules.specs.Apart.{Alone}
 use Rattle.marker_rules.specs.Stretches.{OwnBounded, MarksExactly}
-use Rattle.marker_rules.specs.Promises.{Keeps, RefusalKeeps, MarkerKeeps}
+use Rattle.marker_rules.specs.Promises.{LongIsMarked, Keeps, RefusalKeeps, MarkerKeeps}
 use Rattle.marker_rules.proofs.Bound.{own-bounded}
 use Rattle.marker_rules.proofs.Need.{marks-exactly}
 use Rattle.marker_rules.proofs.Turns.{Move, refuses, accepts, move, fresh-bucket, lasting-fresh, lasting-after}
 use Rattle.marker_rules.proofs.Apart.{alone, by-itself}
 use Rattle.marker_rules.proofs.Spans.{bounded-by, told-onward}
 use Rattle.marker_rules.proofs.Content.{nothing-lost}
+
+pub long-is-marked : LongIsMarked
+long-is-marked w b len t h = lt-leb (million * len) (levelOf w b t) (omega arith)
 
 module _ (σ : Terms) where
   module _ (cs : List Call) (f : ℕ) where

@@ -1,9 +1,11 @@
 -- The marker's promises, over every list of calls from opening, refused calls included. Assumes nothing.
 use mathlib.Core.Path.{_≡_}
+use mathlib.Core.Bool.{false}
 use mathlib.Core.List.{List}
-use Prim.Native.Nat.{ℕ, _≤_}
+use Prim.Native.Nat.{ℕ, _≤_, _<_}
+use Rattle.marker_flows.specs.declared.Flow.{Flow}
 use Rattle.marker_rules.specs.Terms.{Terms, flowAt}
-use Rattle.marker_rules.specs.Bucket.{topOf}
+use Rattle.marker_rules.specs.Bucket.{Bucket, topOf, holds}
 use Rattle.marker_rules.specs.Step.{Call, refused, Marker, bucketAt, fresh, step, after}
 use Rattle.marker_rules.specs.Told.{Told, told, ofFlow}
 use Rattle.marker_rules.specs.Apart.{ByItself}
@@ -15,6 +17,10 @@ pub record Keeps (σ : Terms) (hs : List Told) : Type 0 where
   pub bounded : (f : ℕ) → Bounded (flowAt σ f) f hs
   pub ownBounded : (f : ℕ) → OwnBounded (flowAt σ f) (ofFlow f hs)
   pub exactly : (f : ℕ) → MarksExactly (flowAt σ f) (ofFlow f hs)
+
+-- A packet longer than the depth is always marked, whatever the bucket holds.
+abbrev pub LongIsMarked : Type 0
+LongIsMarked = (w : Flow) (b : Bucket) (len t : ℕ) → w .depth < len → holds w b len t ≡ false
 
 module _ (σ : Terms) where
   -- A refused call changes nothing.
