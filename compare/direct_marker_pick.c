@@ -1,4 +1,5 @@
-/* Aims packets at the instants at which a bucket just holds them, or just does not, and makes some numbers wild. */
+/* Aims packets at the instants at which a bucket just holds them, or just does not, and makes
+ * some numbers wild. */
 #include "direct_marker_pick.h"
 
 #include "direct_pick.h"
@@ -168,6 +169,7 @@ static struct marker_step aimed_packet(struct random *random, struct marker_aim 
     struct marker_step step = { .kind = MARKER_MARK, .at = aim.marker->clock };
     step.flow = (uint32_t)random_below(random, aim.marker->count);
     uint64_t pick = random_below(random, 100);
+    /* Half of those that cannot be aimed, the bucket being full, go with the longest packet. */
     step.length = MOST_LENGTH;
     if (pick < 60 && (aim_at_length(random, aim, &step) || pick < 30))
         return step;
@@ -178,7 +180,7 @@ static struct marker_step aimed_packet(struct random *random, struct marker_aim 
     return step;
 }
 
-/* Flows that were not opened, and some that would be if they were cut. */
+/* Flows that were not opened, the last unless all were, and some that would be if they were cut. */
 static uint32_t wild_flow(struct random *random, uint32_t count)
 {
     const uint32_t some[] = { count, MOST_FLOWS - 1, MOST_FLOWS, 256, 65536,

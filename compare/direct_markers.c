@@ -79,13 +79,14 @@ static uint32_t open_pair(struct pair *pair, const struct marker_step *step)
     return given;
 }
 
+/* The answers of both sides are alike by now, so this holds both to the bound. */
 static void hold_bound(struct pair *pair, const struct marker_step *step, bool marked)
 {
     past_add(&pair->past, step, marked);
     enum marker_bound bound = past_bound(&pair->past, pair->second.buckets[step->flow].flow);
     if (bound == BOUND_BROKEN)
         failed("more bytes were left unmarked than depth and rate allow");
-    if (bound == BOUND_JUST_KEPT)
+    if (bound == BOUND_JUST_KEPT && !marked)
         count_outcome(BOUND_REACHED);
 }
 

@@ -6,8 +6,8 @@
 
 #define BASELINE_MILLION UINT64_C(1000000)
 
-/* After so many ticks every bucket is full, even the deepest at the least rate.  A shorter span
- * times any rate has room in 64 bits, so that none has to be multiplied as a longer one. */
+/* After so many ticks every bucket is full, even the deepest at the least rate.  With a
+ * shorter span, rate times span has room in 64 bits. */
 #define BASELINE_FILLED (BILGETHRUM_MOST_DEPTH * BASELINE_MILLION)
 
 _Static_assert(BASELINE_FILLED <= (UINT64_MAX - BASELINE_FILLED) / BILGETHRUM_MOST_RATE,
