@@ -3,6 +3,7 @@
  *
  * Each line that it prints is a sender's packet in the form of the trace texts, u for unmarked
  * and m for marked, or an advance, and then the scheduler's answer as the trace program prints it.
+ * A packet that the door refuses has no marking: its line has the flow, the length and the instant.
  * Exit status 0: all was printed; 1: it could not be written; 2: line or marker were misused. */
 #include <inttypes.h>
 #include <stdbool.h>
@@ -47,6 +48,8 @@ static void advance(uint64_t instant)
                answer.number, answer.start, answer.extra, answer.dropped);
         answer = bilgethrum_advance(&line, instant);
     }
+    if (answer.refusal != BILGETHRUM_NOT_REFUSED)
+        printf("a%" PRIu64 ": R %" PRIu32 "\n", instant, answer.refusal);
 }
 
 /* A packet comes to the door, which nobody has marked. */
@@ -55,7 +58,7 @@ static void arrive(uint32_t flow, uint32_t length, uint64_t instant)
     advance(instant);
     bilgethrum_marking marking = bilgethrum_mark(&marker, flow, length, instant);
     if (marking.refusal != BILGETHRUM_NOT_REFUSED) {
-        printf("%s %" PRIu32 "@%" PRIu64 ": R %" PRIu32 " at the door\n", names[flow], length,
+        printf("flow %" PRIu32 " %" PRIu32 "@%" PRIu64 ": R %" PRIu32 " at the door\n", flow, length,
                instant, marking.refusal);
         return;
     }

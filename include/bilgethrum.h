@@ -177,9 +177,9 @@ typedef struct bilgethrum_flows {
 } bilgethrum_flows;
 
 /* Opens a marker, whatever stood in its words; the clock starts at 0, and every bucket
- * is full.  Gives the refusal number: 51, else 52 where any flow's rate is out of range,
- * else 53 where any flow's depth is.  A refused opening opens the marker all the same,
- * with one flow of rate 1 and depth 1. */
+ * is full, so to open anew fills them all.  Gives the refusal number: 51, else 52 where
+ * any flow's rate is out of range, else 53 where any flow's depth is.  A refused opening
+ * opens the marker all the same, with one flow of rate 1 and depth 1. */
 uint32_t bilgethrum_open_marker(bilgethrum_marker *marker, bilgethrum_flows flows);
 
 typedef struct bilgethrum_marking {
@@ -189,12 +189,13 @@ typedef struct bilgethrum_marking {
 
 /* A packet of a flow comes to the door.  It is left unmarked exactly if the flow's
  * bucket holds its whole length at that instant, and the length is then taken from the
- * bucket; otherwise it is marked, and nothing is taken.  All flows have one clock: the
- * instant of the last accepted packet of any flow.
+ * bucket; otherwise it is marked, and nothing is taken.  Instants are in ticks since the
+ * marker's opening, and all flows have one clock: the instant of the last accepted
+ * packet of any flow.
  *
- * For every flow and every stretch of accepted calls, 1,000,000 times the bytes left
- * unmarked is at most 1,000,000 times the depth plus the rate times the span from the
- * first of the calls to the last. */
+ * For every flow and every stretch of accepted calls since the opening, 1,000,000 times
+ * the bytes left unmarked is at most 1,000,000 times the depth plus the rate times the
+ * span from the first of the calls to the last. */
 bilgethrum_marking bilgethrum_mark(bilgethrum_marker *marker, uint32_t flow, uint32_t length,
                                    uint64_t at);
 

@@ -2,7 +2,6 @@
 use mathlib.Core.Path.{_≡_, ap, subst, _∙_}
 use mathlib.Core.List.{List}
 use Prim.Native.Nat.{ℕ}
-use lib.ListN.{length}
 use Rattle.block_image.specs.declared.Reading.{Reading}
 use Rattle.block_columns.specs.Columns.{Columns}
 use Rattle.block_reader.specs.Read.{Reads}

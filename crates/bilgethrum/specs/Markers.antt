@@ -1,15 +1,18 @@
 -- The promises of the marker's calls for C hosts, through the definitions of the calls below them; and lists of such calls. Assumes nothing.
 use mathlib.Core.Path.{_≡_}
+use mathlib.Core.Bool.{cond}
 use mathlib.Core.List.{List, [], _∷_, map}
 use Prim.Native.Nat.{ℕ}
+use lib.Dec.{eqb}
 use Rattle.marker_flows.specs.declared.Flows.{Flows}
-use Rattle.marker_rules.specs.Step.{Call, fresh}
+use Rattle.marker_rules.specs.Step.{Call, Answer, unmarked, marked, refused, fresh}
 use Rattle.marker_rules.specs.Numbers.{numbersOf}
 use Rattle.marker_rules.specs.Told.{Told, told}
+use Rattle.marker_rules.specs.Promises.{Keeps}
 use Rattle.marker.specs.Words.{Words, Sized}
 use Rattle.marker.specs.Calls.{openOf, openWords, markOf, markWords}
+use Rattle.marker.specs.Machine.{inForce}
 use Rattle.marker.specs.Promises.{Opens, Marks}
-use Rattle.marker.specs.Agreement.{inForce}
 use Rattle.bilgethrum_values.specs.declared.HostMarking.{HostMarking}
 use Rattle.bilgethrum_values.specs.Host.{hostMarkerOpening, hostMarking}
 
@@ -43,6 +46,20 @@ AllMarkingsFaithful =
     → Sized before
     → (cs : List Call)
     → markingsRead (openWords asked before) cs ≡ map toldNumbers (told (inForce asked) (fresh (inForce asked)) cs)
+
+-- The answer as a host takes it from these numbers: refused where the refusal is not 0, else marked where the other is not.
+abbrev pub answerBy : (refusal marked : ℕ) → Answer
+answerBy n m = cond (eqb n 0) (cond (eqb m 0) unmarked marked) (refused n)
+
+-- The calls with the answers that the host takes.
+unfoldable pub hostTold : Words → List Call → List Told
+hostTold w [] = []
+hostTold w (c ∷ cs) =
+    record { call = c; answer = answerBy (hostMarking (markOf w c) .refusal) (hostMarking (markOf w c) .marked) } ∷ hostTold (markWords w c) cs
+
+-- For every flow the bound and that nothing is marked without need, of the answers that a host takes.
+abbrev pub HostBounds : Type 0
+HostBounds = (asked : Flows) (before : Words) → Sized before → (cs : List Call) → Keeps (inForce asked) (hostTold (openWords asked before) cs)
 
 -- Each promise leaves one possible answer and one content of the words.
 abbrev pub OneHostMarkerOpening : Type 0

@@ -2,11 +2,9 @@
 // M marked, R and the number of a refusal.
 ghost use mathlib.Core.Path.{_≡_};
 ghost use lib.ListN.{length};
-ghost use Rattle.marker.specs.Machine.{FromOpening};
 use marker::Answer;
 use marker::Flow;
 use marker::Flows;
-use marker::Marker;
 use marker::Opening;
 use units::Bytes;
 use units::Instant;
@@ -100,7 +98,7 @@ const REFUSED_LENGTHS: [u32; 7] = [1, 0, 0, 2_049, 100, 100, 100];
 
 const REFUSED_INSTANTS: [u64; 7] = [10, LATEST + 1, LATEST + 1, 9, LATEST + 1, 9, 10];
 
-// What a refused opening opens: one flow with rate 1 and depth 1.
+// What a refused opening opens: one flow with rate 1 and depth 1; with eight of the most all go through.
 const LEAST_FLOWS: [u32; 4] = [0, 0, 0, 1];
 
 const LEAST_LENGTHS: [u32; 4] = [1, 1, 1, 1];
@@ -120,6 +118,18 @@ fn play_least(count: u32, first: Flow, second: Flow) {
         &LEAST_LENGTHS,
         &LEAST_INSTANTS,
     );
+}
+
+fn play_limits() {
+    let slow = flow(1, 100);
+    let most = flow(10_000_000, 65_535);
+    play_least(8, most, most);
+    play_least(0, slow, slow);
+    play_least(9, flow(0, 0), flow(0, 0));
+    play_least(2, flow(1, 0), flow(0, 1));
+    play_least(1, flow(10_000_001, 1), slow);
+    play_least(2, slow, flow(1, 0));
+    play_least(1, flow(1, 65_536), slow);
 }
 
 fn main() {
@@ -160,12 +170,5 @@ fn main() {
         &REFUSED_LENGTHS,
         &REFUSED_INSTANTS,
     );
-    let most = flow(10_000_000, 65_535);
-    play(8, most, most, &LEAST_FLOWS, &LEAST_LENGTHS, &LEAST_INSTANTS);
-    play_least(0, slow, slow);
-    play_least(9, flow(0, 0), flow(0, 0));
-    play_least(2, flow(1, 0), flow(0, 1));
-    play_least(1, flow(10_000_001, 1), slow);
-    play_least(2, slow, flow(1, 0));
-    play_least(1, flow(1, 65_536), slow);
+    play_limits();
 }

@@ -2,6 +2,7 @@
 use marker::Answer;
 use marker::Flow;
 use marker::Flows;
+use marker::Opening;
 use units::Bytes;
 use units::Instant;
 
@@ -33,7 +34,10 @@ fn main() {
         each: [camera; 8],
     };
     let mut marker = marker::empty();
-    marker::open(asked, &mut marker);
+    let opened = marker::open(asked, &mut marker);
+    let Opening::Ready = opened else {
+        return;
+    };
     // 40 of 60 bytes are taken; 39.9 are there at 199, and 40 at 200.
     tell(marker::mark(0, Bytes(40), Instant(0), &mut marker));
     tell(marker::mark(0, Bytes(40), Instant(199), &mut marker));

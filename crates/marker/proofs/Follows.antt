@@ -7,7 +7,7 @@ use native.Mathlib.Omega.{arith}
 use lib.ListN.{length}
 use borrow.Author.Tests.{ne-eqb}
 use Rattle.refusals.specs.First.{firstOf, numberOf}
-use Rattle.refusals.proofs.Laws.{given}
+use Rattle.refusals.proofs.Laws.{some-number}
 use Rattle.marker_flows.specs.declared.Flow.{Flow}
 use Rattle.marker_flows.specs.declared.Flows.{Flows}
 use Rattle.marker_flows.specs.Flows.{flowsMost, openTests, flowsOf}
@@ -19,9 +19,9 @@ use Rattle.marker_rules.proofs.Opens.{numbered, opens-sound}
 use Rattle.marker_rules.proofs.Turns.{lasting-fresh, lasting-step, lasting-after}
 use Rattle.marker.specs.Words.{Words, Sized}
 use Rattle.marker.specs.Calls.{openingWords, openWords, markWords}
-use Rattle.marker.specs.Machine.{wordsAfter, toldBy, termsBy, markerBy}
+use Rattle.marker.specs.Machine.{wordsAfter, toldBy, inForce, termsBy, markerBy}
 use Rattle.marker.specs.Stands.{Stands}
-use Rattle.marker.specs.Agreement.{inForce, AllFaithful, ContentKept}
+use Rattle.marker.specs.Agreement.{AllFaithful, ContentKept}
 use Rattle.marker.proofs.Laid.{stands-laid}
 use Rattle.marker.proofs.Marked.{Fit, agrees}
 
@@ -52,7 +52,7 @@ opened-by : (asked : Flows) (lent : Words) (o : Option ℕ) → firstOf (openTes
     → Stands (opened o (flowsOf asked) .terms) (openingWords (numberOf o) asked lent) (fresh (opened o (flowsOf asked) .terms))
 opened-by asked lent none e z h = stands-laid lent (flowsOf asked) z h
 opened-by asked lent (some n) e z h =
-    let some-number = given (λ (n : ℕ). 1 ≤ n) (openTests (flowsOf asked)) n (numbered (flowsOf asked)) e in
+    let some = some-number (openTests (flowsOf asked)) n (numbered (flowsOf asked)) e in
     rw (ne-eqb n 0 (λ z. omega arith)) (stands-laid lent _ z h)
 
 stands-opened : (asked : Flows) (lent : Words) → Sized lent → Stands (inForce asked) (openWords asked lent) (fresh (inForce asked))

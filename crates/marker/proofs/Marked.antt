@@ -3,14 +3,14 @@ use mathlib.Core.Path.{_≡_, refl, sym, ap, _∙_}
 use mathlib.Core.Bool.{Bool, true, false, cond}
 use mathlib.Core.List.{List}
 use mathlib.Core.Option.{Option, none, some}
-use Prim.Native.Nat.{ℕ, _*_, _≤_, _<_}
+use Prim.Native.Nat.{ℕ, _*_, _<_}
 use native.Mathlib.Nat.{mul-le-mul-left}
 use native.Mathlib.Omega.{arith}
 use lib.Dec.{leb}
 use lib.ListN.{length}
 use borrow.Author.Tests.{ne-eqb, leb-false, ltb-false}
 use Rattle.refusals.specs.First.{Test, firstOf, numberOf}
-use Rattle.refusals.proofs.Laws.{passes, given, zero-none, Numbered}
+use Rattle.refusals.proofs.Laws.{passes, some-number, zero-none, Numbered}
 use Rattle.units.specs.Limits.{lengthMost, instantMost}
 use Rattle.marker_rules.specs.Terms.{Terms, flowAt, termsOf}
 use Rattle.marker_rules.specs.Bucket.{million, levelOf, holds, takenBy, bucketThen}
@@ -84,7 +84,7 @@ module _ (σ : Terms) (w : Words) (s : Marker) (k : Stands σ w s) (fit : Fit σ
             (stands-held σ w s (c .flow) (c .at) b k (fit .lasting (c .flow) .counted) h (fit .range .most) (looked-then _ _ (c .len) (c .at))),
       )
   agrees-by (some n) e =
-      let some-number = given (λ (n : ℕ). 1 ≤ n) (testsOf σ s c) n numbered e in
+      let h = some-number (testsOf σ s c) n numbered e in
       rw (ne-eqb n 0 (λ z. omega arith)) (refl, k)
 
   pub agrees : Agrees σ w s c
@@ -106,7 +106,7 @@ module _ (σ : Terms) (w : Words) (s : Marker) (k : Stands σ w s) (fit : Fit σ
       let r = fit .range .each (c .flow) h in
       let l = fit .lasting (c .flow) in
       record {
-        opened = omega (arith, fit .range .most);
+        below = omega (arith, fit .range .most);
         fillable =
             rw (x .rate, x .top, x .held)
             (record { small = mul-le-mul-left million (r .depthMost); within = l .most; least = r .rateLeast; most = r .rateMost });

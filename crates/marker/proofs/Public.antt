@@ -11,7 +11,7 @@ use borrow.Author.Tests.{eq-eqb, ne-eqb, le-leb, lt-leb}
 use Rattle.lists.specs.Rows.{rows}
 use Rattle.lists.proofs.Rows.{length-tab}
 use Rattle.refusals.specs.First.{firstOf, numberOf}
-use Rattle.refusals.proofs.Laws.{given}
+use Rattle.refusals.proofs.Laws.{some-number}
 use Rattle.marker_flows.specs.declared.Flow.{Flow}
 use Rattle.marker_flows.specs.declared.Flows.{Flows}
 use Rattle.marker_flows.specs.Flows.{flowsMost, openTests, leastFlow, noFlow, flowsOf}
@@ -36,7 +36,7 @@ use Rattle.marker.proofs.Follows.{fit-after, content-kept}
 number-by : (ws : List Flow) (o : Option ℕ) → firstOf (openTests ws) ≡ o → openingNumber (opening (numberOf o)) ≡ opened o ws .number
 number-by ws none e = refl
 number-by ws (some n) e =
-    let some-number = given (λ (n : ℕ). 1 ≤ n) (openTests ws) n (numbered ws) e in
+    let h = some-number (openTests ws) n (numbered ws) e in
     rw (ne-eqb n 0 (λ z. omega arith))
 
 opens : (asked : Flows) (before : Words) (r : Opening) (left : Words) → r ≡ openOf asked → left ≡ openWords asked before

@@ -2,19 +2,12 @@
 use mathlib.Core.Path.{_≡_}
 use mathlib.Core.List.{List}
 use Rattle.marker_flows.specs.declared.Flows.{Flows}
-use Rattle.marker_flows.specs.Flows.{flowsOf}
-use Rattle.marker_rules.specs.Terms.{Terms}
 use Rattle.marker_rules.specs.Step.{Call, fresh, after}
 use Rattle.marker_rules.specs.Told.{told}
-use Rattle.marker_rules.specs.Open as rules
 use Rattle.marker.specs.Words.{Words, Sized}
 use Rattle.marker.specs.Calls.{openWords}
-use Rattle.marker.specs.Machine.{wordsAfter, toldBy, FromOpening, termsBy, markerBy}
+use Rattle.marker.specs.Machine.{wordsAfter, toldBy, inForce, FromOpening, termsBy, markerBy}
 use Rattle.marker.specs.Stands.{Stands}
-
--- The terms that the rules put in force.
-abbrev pub inForce : Flows → Terms
-inForce asked = rules.opening (flowsOf asked) .terms
 
 -- An opening and the calls cs on it, over lent words that hold anything.
 pub record Faithful (asked : Flows) (lent : Words) (cs : List Call) : Type 0 where

@@ -6,6 +6,6 @@ use Rattle.marker.specs.Words.{Words, rateIn, topIn, heldIn, lookedIn}
 
 -- Flow f has words, its bucket can be filled, and t is not before its last look.
 pub record Lookable (w : Words) (f t : ℕ) : Type 0 where
-  pub opened : f < flowsMost
+  pub below : f < flowsMost
   pub fillable : Fillable (topIn w f) (heldIn w f) (rateIn w f)
   pub past : lookedIn w f ≤ t

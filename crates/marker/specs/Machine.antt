@@ -21,6 +21,10 @@ unfoldable pub toldBy : Words → List Call → List Told
 toldBy w [] = []
 toldBy w (c ∷ cs) = record { call = c; answer = answerRead (markOf w c) } ∷ toldBy (markWords w c) cs
 
+-- The terms that an opening puts in force.
+abbrev pub inForce : Flows → Terms
+inForce asked = rules.opening (flowsOf asked) .terms
+
 -- THE PREMISE of a call: these words come from an opening, over words of the lent length, and calls on them.
 pub record FromOpening (w : Words) : Type 0 where
   pub asked : Flows
@@ -31,7 +35,7 @@ pub record FromOpening (w : Words) : Type 0 where
 
 -- WHAT THEY STAND FOR: the marker of the rules after the same opening and the same calls, under the terms in force.
 abbrev pub termsBy : {w : Words} → FromOpening w → Terms
-termsBy o = rules.opening (flowsOf (o .asked)) .terms
+termsBy o = inForce (o .asked)
 
 abbrev pub markerBy : {w : Words} → FromOpening w → Marker
 markerBy o = after (termsBy o) (fresh (termsBy o)) (o .calls)

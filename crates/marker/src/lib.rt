@@ -114,10 +114,7 @@ fn mark_refusal(flow: u32, length: Bytes, at: Instant, count: u64, clock: u64) -
     if count <= flow as u64 {
         return 51;
     }
-    if length.0 < 1 {
-        return 1;
-    }
-    if units::LENGTH_MOST < length.0 {
+    if !units::length_in_range(length) {
         return 1;
     }
     if units::INSTANT_MOST < at.0 {

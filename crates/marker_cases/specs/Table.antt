@@ -5,10 +5,11 @@ use Prim.Native.Nat.{ℕ, _+_, _*_}
 use lib.ListN.{replicate}
 use Rattle.marker_flows.specs.declared.Flow.{Flow}
 use Rattle.marker_rules.specs.Terms.{termsOf}
-use Rattle.marker_rules.specs.Bucket.{million, topOf}
+use Rattle.marker_rules.specs.Bucket.{million}
 use Rattle.marker_rules.specs.Step.{Call, Answer, unmarked, marked, refused, fresh}
 use Rattle.marker_rules.specs.Open.{opening}
-use Rattle.marker_rules.specs.Told.{Told, told, instants, spanOf, ofFlow, unmarkedBytes}
+use Rattle.marker_rules.specs.Told.{Told, told, instants, ofFlow, unmarkedBytes}
+use Rattle.marker_rules.specs.Stretches.{allowed}
 
 -- A flow, and a packet of a flow.
 abbrev pub flow : (rate depth : ℕ) → Flow
@@ -105,4 +106,4 @@ wantedOf c = c .wanted
 pub record AllCases : Type 0 where
   pub calls : map gotOf table ≡ map wantedOf table
   pub opened : openings ≡ 0 ∷ 0 ∷ 51 ∷ 51 ∷ 52 ∷ 52 ∷ 53 ∷ 53 ∷ []
-  pub bound : million * unmarkedBytes (ofFlow 0 reached) ≡ topOf (flow 1_000_000 100) + 1_000_000 * spanOf (instants reached)
+  pub bound : million * unmarkedBytes (ofFlow 0 reached) ≡ allowed (flow 1_000_000 100) (instants reached)

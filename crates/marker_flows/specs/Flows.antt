@@ -21,6 +21,7 @@ rateMost = 10_000_000
 abbrev pub depthMost : ℕ
 depthMost = 65_535
 
+-- Its rate is out of range, or its depth.
 abbrev pub rateOut : Flow → Bool
 rateOut w = not (inRange 1 rateMost (w .rate))
 

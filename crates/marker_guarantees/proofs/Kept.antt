@@ -13,9 +13,8 @@ use Rattle.marker_rules.proofs.Content.{nothing-lost}
 use Rattle.marker_rules.proofs.Keeps.{keeps}
 use Rattle.marker.specs.Words.{Words}
 use Rattle.marker.specs.Calls.{openWords}
-use Rattle.marker.specs.Machine.{wordsAfter}
+use Rattle.marker.specs.Machine.{wordsAfter, inForce}
 use Rattle.marker.specs.Stands.{FlowStands}
-use Rattle.marker.specs.Agreement.{inForce}
 use Rattle.marker.proofs.Follows.{all-faithful, fit-after, told-from, stands-from}
 use Rattle.marker_guarantees.specs.Kept.{Bounds, SameMarkings, bucketIn, ContentExact}
 

@@ -13,8 +13,7 @@ use Rattle.marker_rules.specs.Content.{Uncut}
 use Rattle.marker_rules.specs.Promises.{Keeps}
 use Rattle.marker.specs.Words.{Words, Sized, rateIn, heldIn, lookedIn}
 use Rattle.marker.specs.Calls.{openWords}
-use Rattle.marker.specs.Machine.{wordsAfter, toldBy}
-use Rattle.marker.specs.Agreement.{inForce}
+use Rattle.marker.specs.Machine.{wordsAfter, toldBy, inForce}
 
 -- The code's calls with its answers, from an opening.
 abbrev pub toldSince : Flows → (lent : Words) → List Call → List Told
@@ -44,6 +43,7 @@ bucketIn w f = record { held = heldIn w f; looked = lookedIn w f }
 abbrev pub Balances : (w v : Words) → (f : ℕ) → List Told → Type 0
 Balances w v f hs = heldIn v f + million * unmarkedBytes (ofFlow f hs) ≡ heldIn w f + rateIn w f * (lookedIn v f - lookedIn w f)
 
+-- That is so for every flow that was opened.
 abbrev pub ContentExact : Type 0
 ContentExact =
     (asked : Flows) (lent : Words)

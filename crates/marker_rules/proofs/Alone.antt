@@ -2,13 +2,12 @@
 use mathlib.Core.Path.{_≡_, refl, sym, ap, _∙_}
 use mathlib.Core.Bool.{Bool}
 use mathlib.Core.List.{List, [], _∷_, _++_, map, head-eq-of-cons-eq, tail-eq-of-cons-eq}
-use Prim.Native.Nat.{ℕ, _≤_}
+use Prim.Native.Nat.{ℕ}
 use native.Mathlib.Omega.{arith}
 use Rattle.marker_flows.specs.declared.Flow.{Flow}
-use Rattle.marker_rules.specs.Bucket.{Bucket, topOf, holds, bucketThen}
+use Rattle.marker_rules.specs.Bucket.{Bucket, holds, bucketThen}
 use Rattle.marker_rules.specs.Told.{Passed}
 use Rattle.marker_rules.specs.Apart.{Alone, bucketAfter, Packet, packetOf}
-use Rattle.marker_rules.proofs.Laws.{held-then}
 
 same-passed : (l l′ t t′ : ℕ) (u u′ : Bool) → l ≡ l′ → t ≡ t′ → u ≡ u′ → _≡_ {A = Passed} (record { len = l; at = t; unmarked = u }) (record { len = l′; at = t′; unmarked = u′ })
 same-passed l l′ t t′ u u′ e f g = rw (e, f, g)
@@ -22,10 +21,6 @@ module _ (w : Flow) where
   pub alone-rest : (b : Bucket) (ps qs : List Passed) → Alone w b (ps ++ qs) → Alone w (bucketAfter w b ps) qs
   alone-rest b [] qs a = a
   alone-rest b (p ∷ ps) qs a = alone-rest (bucketThen w b (p .len) (p .at)) ps qs (a .2)
-
-  pub held-after : (b : Bucket) (ps : List Passed) → b .held ≤ topOf w → bucketAfter w b ps .held ≤ topOf w
-  held-after b [] h = h
-  held-after b (p ∷ ps) h = held-after (bucketThen w b (p .len) (p .at)) ps (held-then w b (p .len) (p .at))
 
   -- The same packets have the same answers.
   pub alone-one : (b : Bucket) (ps qs : List Passed) → Alone w b ps → Alone w b qs → map packetOf ps ≡ map packetOf qs → ps ≡ qs

@@ -6,7 +6,7 @@ use Prim.Native.Nat.{_+_, _*_, _-_, _≤_}
 use native.Mathlib.Omega.{arith}
 use Rattle.marker_flows.specs.declared.Flow.{Flow}
 use Rattle.marker_rules.specs.Bucket.{Bucket, million, levelOf, bucketThen}
-use Rattle.marker_rules.specs.Told.{Passed, lastOf, spanOf, onlyIf, unmarkedBytes, instantsOf}
+use Rattle.marker_rules.specs.Told.{Passed, lastOf, onlyIf, unmarkedBytes, instantsOf}
 use Rattle.marker_rules.specs.Apart.{Alone, bucketAfter}
 use Rattle.marker_rules.specs.Stretches.{Within, OwnBounded}
 use Rattle.marker_rules.proofs.Laws.{inflow, paid, looked-then}
@@ -40,7 +40,7 @@ module _ (w : Flow) where
       omega (arith, inflow (w .rate) (b .looked) (p .at) (lastOf (p .at) (instantsOf ps)) (a .0) (k .0))
 
   -- At its first packet the bucket holds at most its depth.
-  within : (b : Bucket) (ps : List Passed) → Alone w b ps → Within w (unmarkedBytes ps) (spanOf (instantsOf ps))
+  within : (b : Bucket) (ps : List Passed) → Alone w b ps → Within w (unmarkedBytes ps) (instantsOf ps)
   within b [] a = omega arith
   within b (p ∷ ps) a =
       let k = from-level b p ps a (covers (bucketThen w b (p .len) (p .at)) ps (a .2)) in

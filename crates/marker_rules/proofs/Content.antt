@@ -1,9 +1,8 @@
 -- Where no fill was cut off, held and paid are what was held and what flowed in. Assumes nothing.
-use mathlib.Core.Path.{_≡_, ap, _∙_}
+use mathlib.Core.Path.{_≡_, ap}
 use mathlib.Core.Bool.{Bool}
 use mathlib.Core.List.{List, [], _∷_}
-use Prim.Native.Nat.{ℕ, _+_, _*_, _-_, _≤_}
-use native.Mathlib.Nat.{mul-zero}
+use Prim.Native.Nat.{_+_, _*_, _-_, _≤_}
 use native.Mathlib.Omega.{arith}
 use Rattle.marker_flows.specs.declared.Flow.{Flow}
 use Rattle.marker_rules.specs.Terms.{Terms, flowAt}
@@ -12,7 +11,7 @@ use Rattle.marker_rules.specs.Step.{bucketAt, fresh, after}
 use Rattle.marker_rules.specs.Told.{Passed, told, ofFlow, onlyIf, unmarkedBytes}
 use Rattle.marker_rules.specs.Apart.{Alone, bucketAfter}
 use Rattle.marker_rules.specs.Content.{Uncut, NothingLost}
-use Rattle.marker_rules.proofs.Laws.{inflow, paid, looked-then}
+use Rattle.marker_rules.proofs.Laws.{inflow, no-inflow, paid, looked-then}
 use Rattle.marker_rules.proofs.Turns.{lasting-fresh, lasting-after}
 use Rattle.marker_rules.proofs.Apart.{alone, bucket-after}
 
@@ -21,10 +20,7 @@ module _ (w : Flow) where
   Accounts b after ps = (b .looked ≤ after .looked) × (after .held + million * unmarkedBytes ps ≡ b .held + w .rate * (after .looked - b .looked))
 
   accounts-none : (b : Bucket) → Accounts b b []
-  accounts-none b =
-      let e : b .looked - b .looked ≡ 0 = omega arith in
-      let z = ap (λ (n : ℕ). w .rate * n) e ∙ mul-zero (w .rate) in
-      omega (arith, z)
+  accounts-none b = omega (arith, no-inflow (w .rate) (b .looked))
 
   accounts : (b : Bucket) (ps : List Passed) → Alone w b ps → Uncut w b ps → Accounts b (bucketAfter w b ps) ps
   accounts b [] a u = accounts-none b

@@ -3,10 +3,11 @@ use mathlib.Core.Path.{_≡_, refl, ap}
 use mathlib.Core.Bool.{Bool, true, false}
 use mathlib.Core.List.{List}
 use Prim.Native.Nat.{ℕ, _*_}
+use native.Mathlib.Nat.{mul-zero}
 use native.Mathlib.Omega.{arith}
-use borrow.Author.Tests.{lt-leb}
+use borrow.Author.Tests.{leb-false, lt-leb}
 use Rattle.marker_rules.specs.Terms.{Terms, flowAt}
-use Rattle.marker_rules.specs.Bucket.{Bucket, million, levelOf, holds}
+use Rattle.marker_rules.specs.Bucket.{Bucket, full, million, levelOf, holds}
 use Rattle.marker_rules.specs.Step.{Call, refused, Marker, Outcome, bucketAt, answerBy, fresh}
 use Rattle.marker_rules.specs.Told.{told, ofFlow}
 use Rattle.marker_rules.specs.Apart.{Alone}
@@ -20,7 +21,10 @@ use Rattle.marker_rules.proofs.Spans.{bounded-by, told-onward}
 use Rattle.marker_rules.proofs.Content.{nothing-lost}
 
 pub long-is-marked : LongIsMarked
-long-is-marked w b len t h = lt-leb (million * len) (levelOf w b t) (omega arith)
+long-is-marked w len = (
+  (λ h. let l = leb-false (million * len) (levelOf w (full w) 0) (h (full w) 0) in omega (arith, l, mul-zero (w .rate))),
+  (λ h b t. lt-leb (million * len) (levelOf w b t) (omega arith)),
+)
 
 module _ (σ : Terms) where
   module _ (cs : List Call) (f : ℕ) where
@@ -51,12 +55,13 @@ module _ (σ : Terms) where
   unmoved s c n _ (refuses m) e = refl
   unmoved s c n _ (accepts a) e = absurd (not-refused (holds (flowAt σ (c .flow)) (bucketAt s (c .flow)) (c .len) (c .at)) n e)
 
-  refusal-keeps : RefusalKeeps σ
+  pub refusal-keeps : RefusalKeeps σ
   refusal-keeps s c n e = unmoved s c n _ (move σ s c) e
 
   pub marker-keeps : MarkerKeeps σ
   marker-keeps =
       record {
+        onward = told-onward σ (fresh σ);
         keeps = keeps;
         byItself = by-itself σ;
         nothingLost = nothing-lost σ;

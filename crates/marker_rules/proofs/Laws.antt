@@ -2,7 +2,7 @@
 use mathlib.Core.Path.{_≡_, refl, ap, _∙_}
 use mathlib.Core.Bool.{Bool, true, false}
 use Prim.Native.Nat.{ℕ, _+_, _*_, _-_, _≤_}
-use native.Mathlib.Nat.{mul-add}
+use native.Mathlib.Nat.{mul-add, mul-zero}
 use native.Mathlib.Omega.{arith}
 use borrow.Author.Tests.{leb-true}
 use Rattle.marker_flows.specs.declared.Flow.{Flow}
@@ -15,6 +15,12 @@ pub inflow : (r l k t : ℕ) → l ≤ k → k ≤ t → r * (t - l) ≡ r * (k 
 inflow r l k t h i =
     let e : t - l ≡ (k - l) + (t - k) = omega arith in
     ap (λ (n : ℕ). r * n) e ∙ mul-add r (k - l) (t - k)
+
+-- Over no span nothing flows in.
+pub no-inflow : (r t : ℕ) → r * (t - t) ≡ 0
+no-inflow r t =
+    let e : t - t ≡ 0 = omega arith in
+    ap (λ (n : ℕ). r * n) e ∙ mul-zero r
 
 pub looking-keeps : LookingKeeps
 looking-keeps w b k t h i = omega (arith, inflow (w .rate) (b .looked) k t h i)

@@ -1,6 +1,8 @@
 pub mod Laws
 pub mod Alone
 pub mod Bound
+pub mod Adds
+pub mod Cuts
 pub mod Need
 pub mod Turns
 pub mod Apart

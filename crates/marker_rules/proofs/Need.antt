@@ -3,18 +3,18 @@ use mathlib.Core.Path.{_≡_, refl, sym, ap, _∙_}
 use mathlib.Core.Bool.{Bool, true, false}
 use mathlib.Core.List.{List, [], _∷_, _++_, append-assoc, append-nil}
 use Prim.Native.Nat.{ℕ, _+_, _*_, _-_, _≤_, _<_}
-use native.Mathlib.Nat.{mul-zero}
 use native.Mathlib.Omega.{arith}
 use lib.Dec.{leb}
 use borrow.Author.Tests.{leb-true, leb-false}
 use Rattle.marker_flows.specs.declared.Flow.{Flow}
 use Rattle.marker_rules.specs.Bucket.{Bucket, million, topOf, levelOf, holds, bucketThen}
-use Rattle.marker_rules.specs.Told.{Passed, lastOf, spanOf, onlyIf, unmarkedBytes, instantsOf}
+use Rattle.marker_rules.specs.Told.{Passed, lastOf, spanOf, onlyIf, unmarkedBytes, instantsOf, ofFlow}
 use Rattle.marker_rules.specs.Apart.{Alone, bucketAfter}
 use Rattle.marker_rules.specs.Stretches.{Needed, MarksExactly, leftUnmarked, InExcess}
-use Rattle.marker_rules.proofs.Laws.{inflow, paid, looked-then}
+use Rattle.marker_rules.proofs.Laws.{inflow, no-inflow, paid, looked-then}
 use Rattle.marker_rules.proofs.Alone.{alone-first, alone-rest}
 use Rattle.marker_rules.proofs.Bound.{own-bounded}
+use Rattle.marker_rules.proofs.Cuts.{bound-is-own}
 
 -- One packet more at the end.
 bytes-more : (ps : List Passed) (p : Passed) → unmarkedBytes (ps ++ p ∷ []) ≡ unmarkedBytes ps + onlyIf (p .unmarked) (p .len)
@@ -64,8 +64,6 @@ module _ (w : Flow) where
     begun : topOf w ≤ b .held + w .rate * (p .at - b .looked) → Since (done ++ p ∷ []) next
     begun h =
         let l = looked-then w b (p .len) (p .at) in
-        let e : p .at - p .at ≡ 0 = omega arith in
-        let z = ap (λ (n : ℕ). w .rate * n) e ∙ mul-zero (w .rate) in
         record {
           before = done;
           these = p ∷ [];
@@ -73,7 +71,7 @@ module _ (w : Flow) where
           from = p .at;
           begins = (p, [], refl, refl);
           past = omega arith;
-          exact = rw l (omega (arith, took, z));
+          exact = rw l (omega (arith, took, no-inflow (w .rate) (p .at)));
         }
 
     -- It was not: the stretch goes on.
@@ -100,9 +98,7 @@ module _ (w : Flow) where
     -- A packet whose length the bucket does not hold.
     short-stretch : topOf w < million * p .len → Needed w done p
     short-stretch h =
-        let e : p .at - p .at ≡ 0 = omega arith in
-        let z = ap (λ (n : ℕ). w .rate * n) e ∙ mul-zero (w .rate) in
-        record { before = done; these = []; split = sym (append-nil done); over = omega (arith, z, h) }
+        record { before = done; these = []; split = sym (append-nil done); over = omega (arith, no-inflow (w .rate) (p .at), h) }
 
     long-stretch : Since done b → b .held + w .rate * (p .at - b .looked) < million * p .len → Needed w done p
     long-stretch x h =
@@ -155,10 +151,10 @@ same-instants [] p = refl
 same-instants (q ∷ ps) p = ap (λ (ts : List ℕ). q .at ∷ ts) (same-instants ps p)
 
 pub in-excess : InExcess
-in-excess w done p n k =
-    let s : done ++ leftUnmarked p ∷ [] ≡ n .before ++ ((n .these ++ leftUnmarked p ∷ []) ++ []) =
-    rw (n .split, append-assoc (n .before) (n .these) (leftUnmarked p ∷ []), append-nil (n .these ++ leftUnmarked p ∷ [])) in
-    let h = k (n .before) (n .these ++ leftUnmarked p ∷ []) [] s in
+in-excess w f done p hs n e k =
+    let s : ofFlow f hs ≡ n .before ++ ((n .these ++ leftUnmarked p ∷ []) ++ []) =
+    rw (e, n .split, append-assoc (n .before) (n .these) (leftUnmarked p ∷ []), append-nil (n .these ++ leftUnmarked p ∷ [])) in
+    let h = bound-is-own w f hs k (n .before) (n .these ++ leftUnmarked p ∷ []) [] s in
     let u = bytes-more (n .these) (leftUnmarked p) in
     let e = ap (λ (ts : List ℕ). w .rate * spanOf ts) (same-instants (n .these) p) in
     omega (arith, h, u, e, n .over)

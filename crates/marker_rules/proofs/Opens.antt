@@ -9,7 +9,7 @@ use lib.Dec.{leb}
 use lib.ListN.{length, getD}
 use borrow.Author.Tests.{leb-true, not-false, le-leb}
 use Rattle.refusals.specs.First.{firstOf}
-use Rattle.refusals.proofs.Laws.{passes, both, given, Numbered}
+use Rattle.refusals.proofs.Laws.{passes, both, some-number, Numbered}
 use Rattle.units.specs.Limits.{inRange}
 use Rattle.marker_flows.specs.declared.Flow.{Flow}
 use Rattle.marker_flows.specs.Flows.{flowsMost, rateMost, depthMost, rateOut, depthOut, anyOut, openTests, leastFlow, noFlow}
@@ -68,7 +68,7 @@ numbered ws = (omega arith, (omega arith, (omega arith, tt)))
 
 number-zero : (ws : List Flow) (o : Option ℕ) → firstOf (openTests ws) ≡ o → opened o ws .number ≡ 0 → firstOf (openTests ws) ≡ none
 number-zero ws none e z = e
-number-zero ws (some n) e z = absurd (omega (arith, given (λ (n : ℕ). 1 ≤ n) (openTests ws) n (numbered ws) e))
+number-zero ws (some n) e z = absurd (omega (arith, some-number (openTests ws) n (numbered ws) e))
 
 zero-number : (ws : List Flow) (o : Option ℕ) → o ≡ none → opened o ws .number ≡ 0
 zero-number ws o e = rw e
@@ -92,7 +92,7 @@ ranges ws (some n) e = least-in-range
 
 asked : (ws : List Flow) (o : Option ℕ) → firstOf (openTests ws) ≡ o → opened o ws .number ≡ 0 → opened o ws .terms ≡ termsOf ws
 asked ws none e z = refl
-asked ws (some n) e z = absurd (omega (arith, given (λ (n : ℕ). 1 ≤ n) (openTests ws) n (numbered ws) e))
+asked ws (some n) e z = absurd (omega (arith, some-number (openTests ws) n (numbered ws) e))
 
 filled : (ws : List Flow) (o : Option ℕ) → opened o ws .marker ≡ fresh (opened o ws .terms)
 filled ws none = refl

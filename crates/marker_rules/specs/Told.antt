@@ -1,7 +1,7 @@
 -- What calls and answers tell by themselves: nothing here reads a bucket. Assumes nothing.
 use mathlib.Core.Bool.{Bool, true, false}
 use mathlib.Core.List.{List, [], _∷_, map}
-use Prim.Native.Nat.{ℕ, _+_, _-_}
+use Prim.Native.Nat.{ℕ, _+_, _-_, _≤_}
 use lib.Dec.{eqb}
 use Rattle.marker_rules.specs.Terms.{Terms}
 use Rattle.marker_rules.specs.Step.{Call, Answer, unmarked, marked, refused, Marker, step}
@@ -25,6 +25,16 @@ addInstant c (refused n) ts = ts
 abbrev pub instants : List Told → List ℕ
 instants [] = []
 instants (h ∷ hs) = addInstant (h .call) (h .answer) (instants hs)
+
+-- Where the clock stands after a call, t before it; and that the instants of the accepted calls never go back, from t on.
+abbrev pub clockThen : (t : ℕ) → Call → Answer → ℕ
+clockThen t c unmarked = c .at
+clockThen t c marked = c .at
+clockThen t c (refused n) = t
+
+abbrev pub Onward : (t : ℕ) → List Told → Type 0
+Onward t [] = Unit {0}
+Onward t (h ∷ hs) = (t ≤ clockThen t (h .call) (h .answer)) × Onward (clockThen t (h .call) (h .answer)) hs
 
 -- The last of some instants, t if there are none; and the last minus the first.
 abbrev pub lastOf : (t : ℕ) → List ℕ → ℕ

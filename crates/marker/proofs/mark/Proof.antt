@@ -40,14 +40,14 @@ hold-requires c κs =
     let start = c .before .before .before .before .before .before .before .before .before in
     let refusal = c .before .before .before .before .before .before .mark-refusal .ensures in
     let call = callOf (start .args .flow) (start .args .length .0) (start .args .at .0) in
-    omega (arith, mark-looks _ call (start .pre) _ refusal (c .before .before .before .before .before .if1 .left) .opened)
+    omega (arith, mark-looks _ call (start .pre) _ refusal (c .before .before .before .before .before .if1 .left) .below)
 
 returns-2 : tie.Need-returns-2
 returns-2 c =
     let start = c .before .before .before .before .before .before .before .before .before .before in
     let refusal = c .before .before .before .before .before .before .before .mark-refusal .ensures in
     let call = callOf (start .args .flow) (start .args .length .0) (start .args .at .0) in
-    mark-pays _ call (start .pre) _ refusal (c .before .before .before .before .before .before .if1 .left) _ (c .before .before .before .before .level-at .ensures) _ (c .before .before .if2 .taken)
+    mark-pays _ call (start .pre) _ refusal (c .before .before .before .before .before .before .if1 .left) _ (c .before .before .before .before .level-at .ensures) _ (omega (arith, c .before .before .if2 .taken))
     (c .hold .ensures)
 
 hold-requires-2 : tie.Need-hold-requires-2
@@ -55,7 +55,7 @@ hold-requires-2 c κs =
     let start = c .before .before .before .before .before .before .before .before .before in
     let refusal = c .before .before .before .before .before .before .mark-refusal .ensures in
     let call = callOf (start .args .flow) (start .args .length .0) (start .args .at .0) in
-    omega (arith, mark-looks _ call (start .pre) _ refusal (c .before .before .before .before .before .if1 .left) .opened)
+    omega (arith, mark-looks _ call (start .pre) _ refusal (c .before .before .before .before .before .if1 .left) .below)
 
 returns-3 : tie.Need-returns-3
 returns-3 c =

@@ -6,7 +6,7 @@ use Rattle.marker_bucket.proofs.fill.Statement.{statement}
 use Rattle.marker_bucket.proofs.fill.Tie as tie
 
 returns : tie.Need-returns
-returns c = long-fills _ _ _ _ (c .before .before .pre) (c .if1 .taken)
+returns c = long-fills _ _ _ _ (c .before .before .pre) (omega (arith, c .if1 .taken))
 
 mul-filled : tie.Need-mul-filled
 mul-filled c = omega (arith, short-small _ _ _ _ (c .before .before .before .pre) (c .before .if1 .left))
