@@ -20,7 +20,7 @@ use Rattle.marker.proofs.Follows.{all-faithful}
 use Rattle.marker_guarantees.proofs.Kept.{bounds}
 use Rattle.bilgethrum_values.specs.declared.HostMarking.{HostMarking}
 use Rattle.bilgethrum_values.specs.Host.{hostMarkerOpening, hostMarking}
-use Rattle.bilgethrum.specs.Markers.{HostOpensMarker, HostMarks, markingRead, markingsRead, toldNumbers, AllMarkingsFaithful, answerBy, hostTold, HostBounds, OneHostMarkerOpening, OneHostMarking}
+use Rattle.bilgethrum.specs.Markers.{HostOpensMarker, HostMarks, markingRead, markingsRead, toldNumbers, AllMarkingsFaithful, answerTaken, hostTold, HostBounds, OneHostMarkerOpening, OneHostMarking}
 
 pub opens-marker : (asked : Flows) (before : Words) (r : Opening) (n : ℕ) (left : Words) → Opens asked before r left → n ≡ hostMarkerOpening r
     → HostOpensMarker asked before n left
@@ -48,12 +48,12 @@ all-markings-faithful asked before z cs =
 
 -- What a host takes the numbers for is the answer that they are of: no refusal has the number 0.
 taken-by : (n : ℕ) (z b : Bool) → eqb n 0 ≡ z
-    → answerBy (hostMarking (marking n b) .refusal) (hostMarking (marking n b) .marked) ≡ answerRead (marking n b)
+    → answerTaken (hostMarking (marking n b) .refusal) (hostMarking (marking n b) .marked) ≡ answerRead (marking n b)
 taken-by n true true e = rw e
 taken-by n true false e = rw e
 taken-by n false b e = rw (e, e)
 
-taken : (w : Words) (c : Call) → answerBy (hostMarking (markOf w c) .refusal) (hostMarking (markOf w c) .marked) ≡ answerRead (markOf w c)
+taken : (w : Words) (c : Call) → answerTaken (hostMarking (markOf w c) .refusal) (hostMarking (markOf w c) .marked) ≡ answerRead (markOf w c)
 unfolding markOf
 taken w c = taken-by (refusalIn w c) (eqb (refusalIn w c) 0) (holdsIn w c) refl
 

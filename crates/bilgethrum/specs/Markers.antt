@@ -48,14 +48,14 @@ AllMarkingsFaithful =
     → markingsRead (openWords asked before) cs ≡ map toldNumbers (told (inForce asked) (fresh (inForce asked)) cs)
 
 -- The answer as a host takes it from these numbers: refused where the refusal is not 0, else marked where the other is not.
-abbrev pub answerBy : (refusal marked : ℕ) → Answer
-answerBy n m = cond (eqb n 0) (cond (eqb m 0) unmarked marked) (refused n)
+abbrev pub answerTaken : (refusal marked : ℕ) → Answer
+answerTaken n m = cond (eqb n 0) (cond (eqb m 0) unmarked marked) (refused n)
 
 -- The calls with the answers that the host takes.
 unfoldable pub hostTold : Words → List Call → List Told
 hostTold w [] = []
 hostTold w (c ∷ cs) =
-    record { call = c; answer = answerBy (hostMarking (markOf w c) .refusal) (hostMarking (markOf w c) .marked) } ∷ hostTold (markWords w c) cs
+    record { call = c; answer = answerTaken (hostMarking (markOf w c) .refusal) (hostMarking (markOf w c) .marked) } ∷ hostTold (markWords w c) cs
 
 -- For every flow the bound and that nothing is marked without need, of the answers that a host takes.
 abbrev pub HostBounds : Type 0

@@ -18,6 +18,7 @@ use Rattle.marker_flows.specs.Flows.{flowsMost, openTests, leastFlow, noFlow, f
 use Rattle.marker_rules.specs.Terms.{Terms}
 use Rattle.marker_rules.specs.Bucket.{million}
 use Rattle.marker_rules.specs.Step.{Call, Marker, fresh, step, after}
+use Rattle.marker_rules.specs.Numbers.{numbersOf}
 use Rattle.marker_rules.specs.Open.{opened}
 use Rattle.marker_rules.specs.Open as rules
 use Rattle.marker_rules.proofs.Opens.{numbered, opens-in-range, opens-sound}
@@ -108,8 +109,10 @@ module _ (w : Words) (o : FromOpening w) (c : Call) where
   stepped : Steps o c (markOf w c) (markWords w c)
   unfolding kept
   stepped =
+      let same = agrees (termsBy o) w (markerBy o) (content-kept w o) (fit-after (o .asked) (o .calls)) c .answer in
       record {
-        answer = agrees (termsBy o) w (markerBy o) (content-kept w o) (fit-after (o .asked) (o .calls)) c .answer;
+        answer = same;
+        numbers = ap numbersOf same;
         next = kept;
         terms = refl;
         stands = marker-more (termsBy o) (fresh (termsBy o)) (o .calls) c;

@@ -6,12 +6,13 @@ use Prim.Native.Nat.{ℕ}
 use Rattle.marker_flows.specs.declared.Flows.{Flows}
 use Rattle.marker_flows.specs.Flows.{flowsOf}
 use Rattle.marker_rules.specs.Step.{Call, step}
+use Rattle.marker_rules.specs.Numbers.{numbersOf}
 use Rattle.marker_rules.specs.Open as rules
 use Rattle.marker.specs.declared.Opening.{Opening}
 use Rattle.marker.specs.declared.Answer.{Answer}
 use Rattle.marker.specs.Words.{Words, Sized}
 use Rattle.marker.specs.Calls.{openOf, openWords, markOf, markWords}
-use Rattle.marker.specs.Values.{openingNumber, answerRead}
+use Rattle.marker.specs.Values.{openingNumber, answerRead, answerValues}
 use Rattle.marker.specs.Machine.{wordsAfter, FromOpening, termsBy, markerBy}
 
 -- OPEN. `left` are the words at exit: whatever stood there before, they come from an opening, and stand for the rules' fresh marker under the
@@ -24,10 +25,11 @@ pub record Opens (asked : Flows) (before : Words) (r : Opening) (left : Words) :
   pub terms : (z : Sized before) → termsBy (kept z) ≡ rules.opening (flowsOf asked) .terms
   pub stands : (z : Sized before) → markerBy (kept z) ≡ rules.opening (flowsOf asked) .marker
 
--- One call by the rules, on the marker that the words stand for: the answer is the rules', and what is left comes from an opening too, under
--- the same terms, and stands for the rules' next marker.
+-- One call by the rules, on the marker that the words stand for: the answer and its numbers are the rules', and what is left comes from an
+-- opening too, under the same terms, and stands for the rules' next marker.
 pub record Steps {w : Words} (o : FromOpening w) (c : Call) (r : Answer) (left : Words) : Type 0 where
   pub answer : answerRead r ≡ step (termsBy o) (markerBy o) c .answer
+  pub numbers : answerValues r ≡ numbersOf (step (termsBy o) (markerBy o) c .answer)
   pub next : FromOpening left
   pub terms : termsBy next ≡ termsBy o
   pub stands : markerBy next ≡ step (termsBy o) (markerBy o) c .marker

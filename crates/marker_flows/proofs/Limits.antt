@@ -1,6 +1,6 @@
 -- The flows' limits, flow by flow as a loop goes through them. Assumes nothing.
 use mathlib.Core.Path.{_≡_, refl, ap, _∙_}
-use mathlib.Core.Bool.{Bool, true, false, _||_}
+use mathlib.Core.Bool.{Bool, true, false, _||_, or-true, or-false, or-assoc}
 use mathlib.Core.List.{List, [], _∷_, _++_}
 use Prim.Native.Nat.{ℕ, _+_, _≤_, _<_}
 use native.Mathlib.Omega.{arith}
@@ -12,21 +12,10 @@ use Rattle.refusals.specs.First.{firstOf, numberOf}
 use Rattle.marker_flows.specs.declared.Flow.{Flow}
 use Rattle.marker_flows.specs.Flows.{rateOut, depthOut, anyOut, limitTests, noFlow, firstFlows}
 
-or-no : (b : Bool) → (b || false) ≡ b
-or-no true = refl
-or-no false = refl
-
-or-yes : (b : Bool) → (b || true) ≡ true
-or-yes true = refl
-or-yes false = refl
-
+-- Two lists of flows in one.
 any-append : (out : Flow → Bool) (xs ys : List Flow) → anyOut out (xs ++ ys) ≡ (anyOut out xs || anyOut out ys)
 any-append out [] ys = refl
-any-append out (x ∷ xs) ys = rw (any-append out xs ys) (grouped (out x) (anyOut out xs) (anyOut out ys))
-  where
-    grouped : (a b c : Bool) → (a || (b || c)) ≡ ((a || b) || c)
-    grouped true b c = refl
-    grouped false b c = refl
+any-append out (x ∷ xs) ys = rw (any-append out xs ys, or-assoc (out x) (anyOut out xs) (anyOut out ys))
 
 module _ (each : List Flow) where
   -- What is known once the first i flows are looked at: no rate is out of range, and what is remembered is their refusal's number.
@@ -46,7 +35,7 @@ module _ (each : List Flow) where
     any-more : (out : Flow → Bool) → anyOut out (firstFlows (i + 1) each) ≡ (anyOut out (firstFlows i each) || out here)
     unfolding rows
     any-more out =
-        rw (add-one i) (any-append out (firstFlows i each) (here ∷ []) ∙ ap (λ (b : Bool). anyOut out (firstFlows i each) || b) (or-no (out here)))
+        rw (add-one i) (any-append out (firstFlows i each) (here ∷ []) ∙ ap (λ (b : Bool). anyOut out (firstFlows i each) || b) (or-false (out here)))
 
     -- Its rate is out of range.
     pub rate-stops : (count : ℕ) → i < count → rateOut here ≡ true → 52 ≡ numberOf (firstOf (limitTests (firstFlows count each)))
@@ -62,12 +51,12 @@ module _ (each : List Flow) where
       depth-in m f d =
           record {
             rates = rates-more;
-            number = f ∙ k .number ∙ rw (rates-more, any-more depthOut, k .rates, d, or-no (anyOut depthOut (firstFlows i each)));
+            number = f ∙ k .number ∙ rw (rates-more, any-more depthOut, k .rates, d, or-false (anyOut depthOut (firstFlows i each)));
           }
 
       pub depth-out : (m : ℕ) → m ≡ 53 → depthOut here ≡ true → Looked (i + 1) m
       depth-out m f d =
-          record { rates = rates-more; number = f ∙ rw (rates-more, any-more depthOut, d, or-yes (anyOut depthOut (firstFlows i each))) }
+          record { rates = rates-more; number = f ∙ rw (rates-more, any-more depthOut, d, or-true (anyOut depthOut (firstFlows i each))) }
 
 -- All are looked at.
 pub looked-all : (each : List Flow) (count i n : ℕ) → Looked each i n → i ≤ count → count ≤ i → n ≡ numberOf (firstOf (limitTests (firstFlows count each)))

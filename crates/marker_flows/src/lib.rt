@@ -12,7 +12,7 @@ pub const RATE_MOST: u32 = 10_000_000;
 
 pub const DEPTH_MOST: u32 = 65_535;
 
-// What fills a flow's bucket, in bytes per 1,000,000 ticks, and what it holds at most, in bytes.
+// What fills a flow's bucket, in bytes per 1,000,000 ticks, and what it holds at most, in bytes. A C host hands both structs over as they are.
 #[repr(C)]
 pub struct Flow {
     pub rate: u32,
