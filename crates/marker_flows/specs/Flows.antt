@@ -35,11 +35,11 @@ anyOut out (w ∷ ws) = out w || anyOut out ws
 
 -- 52 if any rate is out of range, then 53 if any depth is.
 abbrev pub limitTests : List Flow → List Test
-limitTests ws = record { number = 52; holds = anyOut rateOut ws } ∷ record { number = 53; holds = anyOut depthOut ws } ∷ []
+limitTests ws = record { refusal = 52; holds = anyOut rateOut ws } ∷ record { refusal = 53; holds = anyOut depthOut ws } ∷ []
 
 -- Refusals of an opening: 51 no flow or more than 8, then 52 and 53.
 abbrev pub openTests : List Flow → List Test
-openTests ws = record { number = 51; holds = not (inRange 1 flowsMost (length ws)) } ∷ limitTests ws
+openTests ws = record { refusal = 51; holds = not (inRange 1 flowsMost (length ws)) } ∷ limitTests ws
 
 -- A flow at its least: what a refused opening opens.
 abbrev pub leastFlow : Flow

@@ -44,10 +44,10 @@ refusal s n = record { marker = s; answer = refused n }
 -- Refusals of a packet where so many flows were opened: 51 a flow that was not, then 1, 2 and 3 as in document 01, with one clock for all flows.
 abbrev pub packetTests : (flows longest latest clock : ℕ) → Call → List Test
 packetTests flows longest latest clock c =
-    record { number = 51; holds = leb flows (c .flow) }
-    ∷ record { number = 1; holds = not (inRange 1 longest (c .len)) }
-    ∷ record { number = 2; holds = ltb latest (c .at) }
-    ∷ record { number = 3; holds = ltb (c .at) clock }
+    record { refusal = 51; holds = leb flows (c .flow) }
+    ∷ record { refusal = 1; holds = not (inRange 1 longest (c .len)) }
+    ∷ record { refusal = 2; holds = ltb latest (c .at) }
+    ∷ record { refusal = 3; holds = ltb (c .at) clock }
     ∷ []
 
 -- The answer to a packet whose whole length its bucket holds, or not.

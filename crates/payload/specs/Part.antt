@@ -13,7 +13,7 @@ use Rattle.units.specs.Limits.{lengthInRange}
 -- Refusals of a view: 1 for the length, then 31 for a payload outside its area.
 abbrev pub viewTests : (area : List ℕ) (len place : ℕ) → List Test
 viewTests area len place =
-    record { number = 1; holds = not (lengthInRange len) } ∷ record { number = 31; holds = ltb (length area) (place + len) } ∷ []
+    record { refusal = 1; holds = not (lengthInRange len) } ∷ record { refusal = 31; holds = ltb (length area) (place + len) } ∷ []
 
 -- The refusal number of a view, 0 if there is none.
 abbrev pub viewRefusal : (area : List ℕ) (len place : ℕ) → ℕ

@@ -16,16 +16,16 @@ use Rattle.scheduler_refusals.specs.Due.{overdueOf}
 -- Refusals 1 to 7.
 abbrev pub arrivalTests : Scheduler → (arrival : Instant) → Marking → Bytes → (at : Instant) → List Test
 arrivalTests s arrival μ len at =
-    record { number = 1; holds = not (lengthInRange (len .0)) }
-    ∷ record { number = 2; holds = ltb instantMost (at .0) }
-    ∷ record { number = 3; holds = ltb (at .0) (s .clock .0) }
-    ∷ record { number = 4; holds = outlasts (termsOf (s .settings)) μ (len .0) }
-    ∷ record { number = 5; holds = overdueOf s arrival at }
-    ∷ record { number = 6; holds = leb waitingMost (waitingOf μ (s .tallies)) }
-    ∷ record { number = 7; holds = leb admissionsMost (admissionsOf (s .tallies)) }
+    record { refusal = 1; holds = not (lengthInRange (len .0)) }
+    ∷ record { refusal = 2; holds = ltb instantMost (at .0) }
+    ∷ record { refusal = 3; holds = ltb (at .0) (s .clock .0) }
+    ∷ record { refusal = 4; holds = outlasts (termsOf (s .settings)) μ (len .0) }
+    ∷ record { refusal = 5; holds = overdueOf s arrival at }
+    ∷ record { refusal = 6; holds = leb waitingMost (waitingOf μ (s .tallies)) }
+    ∷ record { refusal = 7; holds = leb admissionsMost (admissionsOf (s .tallies)) }
     ∷ []
 
 -- Refusals 2 and 3.
 abbrev pub advanceTests : (clock at : Instant) → List Test
 advanceTests clock at =
-    record { number = 2; holds = ltb instantMost (at .0) } ∷ record { number = 3; holds = ltb (at .0) (clock .0) } ∷ []
+    record { refusal = 2; holds = ltb instantMost (at .0) } ∷ record { refusal = 3; holds = ltb (at .0) (clock .0) } ∷ []
