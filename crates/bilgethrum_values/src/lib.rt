@@ -63,6 +63,7 @@ pub struct HostTallies {
 pub struct HostReading {
     pub refusal: u32,
     pub block: u32,
+    pub record: u32,
     pub events: usize,
     pub settings: HostSettings,
 }
@@ -222,10 +223,15 @@ pub fn host_reading(answer: Reading) -> HostReading
         Reading::Accepted { settings, events } => HostReading {
             refusal: 0,
             block: 0,
+            record: 0,
             events,
             settings: host_settings(settings),
         },
-        Reading::Refused { number, block } => {
+        Reading::Refused {
+            number,
+            block,
+            record,
+        } => {
             let none = HostSettings {
                 alpha: 0,
                 ticks_per_byte: 0,
@@ -233,6 +239,7 @@ pub fn host_reading(answer: Reading) -> HostReading
             HostReading {
                 refusal: number as u32,
                 block,
+                record,
                 events: 0,
                 settings: none,
             }

@@ -1,4 +1,4 @@
-// RFC 1071's own examples; each refusal of the reader and the writer reached once, with its block and the lent memory shown; a trace that fills 64 blocks.
+// RFC 1071's own examples; each refusal of the reader and the writer reached, with its block, its record and the lent memory shown; a trace that fills 64 blocks.
 use block_check::check_of;
 use block_check::sum;
 use block_image::Reading;
@@ -54,10 +54,15 @@ fn show_reading(r: Reading) {
             number(settings.ticks_per_byte as u64);
             number(events as u64);
         }
-        Reading::Refused { number: n, block } => {
+        Reading::Refused {
+            number: n,
+            block,
+            record,
+        } => {
             word(b"refused ");
             number(n as u64);
             number(block as u64);
+            number(record as u64);
         }
     }
 }
@@ -125,6 +130,15 @@ fn changed(image: [u8; 1024], at: usize, value: u8) {
     store(&mut other, at, value);
     seal(&mut other, 0);
     seal(&mut other, 512);
+    reading(&other);
+}
+
+// Reads it with record 30 of block 0 made an advance of length 0, which keeps its place.
+fn placed_advance(image: [u8; 1024]) {
+    let mut other = image;
+    store(&mut other, 496, 3);
+    store(&mut other, 499, 0);
+    seal(&mut other, 0);
     reading(&other);
 }
 
@@ -218,7 +232,12 @@ fn main() {
     changed(image, 523, 101);
     changed(image, 527, 1);
     changed(image, 16, 4);
+    changed(image, 496, 0);
     changed(image, 17, 1);
+    changed(image, 258, 9);
+    changed(image, 531, 0);
+    placed_advance(image);
+    changed(image, 280, 1);
     changed(image, 1023, 1);
     writer_cases();
     counts();

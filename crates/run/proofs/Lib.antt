@@ -1,3 +1,4 @@
 pub mod Answers
+pub mod Apart
 pub mod Most
 pub mod Unique

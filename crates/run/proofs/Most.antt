@@ -17,7 +17,7 @@ read-most : (image : List ℕ) (x : Reading) → x ≡ judged image → length (
 read-most image (Accepted s n) h =
     let few = events-few image (Accepted s n) s n h refl in
     omega (arith, trace-most image s n (few .1))
-read-most image (Refused number block) h = omega (arith, line-most 88 (number ∷ block ∷ []) 2 (omega arith))
+read-most image (Refused number block index) h = omega (arith, line-most 88 (number ∷ block ∷ index ∷ []) 3 (omega arith))
 
 pub text-most : TextMost
 text-most image = read-most image (judged image) refl

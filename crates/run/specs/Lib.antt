@@ -1,4 +1,5 @@
 pub mod Text
+pub mod Apart
 pub mod Most
 pub mod Ran
 pub mod Unique

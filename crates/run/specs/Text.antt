@@ -7,14 +7,14 @@ use Rattle.block_image.specs.Image.{judged}
 use Rattle.text.specs.Text.{valuesText}
 use Rattle.run_events.specs.Trace.{traceText}
 
--- A refused image gives only X, the number and the block's index.
-abbrev pub refusedText : (number block : ℕ) → List ℕ
-refusedText number block = valuesText (88 ∷ number ∷ block ∷ [])
+-- A refused image gives only X, the number, the block's index and the record's.
+abbrev pub refusedText : (number block index : ℕ) → List ℕ
+refusedText number block index = valuesText (88 ∷ number ∷ block ∷ index ∷ [])
 
 -- The text of an image that is read so.
 abbrev pub readText : List ℕ → Reading → List ℕ
 readText image (Accepted settings n) = traceText image settings n
-readText image (Refused number block) = refusedText number block
+readText image (Refused number block index) = refusedText number block index
 
 -- The text of an image.
 abbrev pub textOf : List ℕ → List ℕ

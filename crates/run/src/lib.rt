@@ -44,14 +44,14 @@ fn answer_trace(image: &[u8], settings: Settings, events: usize, answer: &mut [u
 }
 
 // Answers with the one line of a refused image.
-fn answer_refused(number: u8, block: u32, answer: &mut [u8]) -> i64
-    ensures { λ r. ⌜ Answers (refusedText number block) (now (answer .entry)) (now (answer .exit)) r ⌝ }
+fn answer_refused(number: u8, block: u32, index: u32, answer: &mut [u8]) -> i64
+    ensures { λ r. ⌜ Answers (refusedText number block index) (now (answer .entry)) (now (answer .exit)) r ⌝ }
 {
     let mut none = [0u8; 1];
-    if answer.len() < tell_refused_image(&mut none, 0, number, block) {
+    if answer.len() < tell_refused_image(&mut none, 0, number, block, index) {
         return SHORT;
     }
-    as_result(tell_refused_image(answer, 0, number, block))
+    as_result(tell_refused_image(answer, 0, number, block, index))
 }
 
 // The whole run: the text of an image, at the start of the area. Returns the text's length, or -32 where the area is shorter than that;
@@ -61,6 +61,10 @@ pub fn whole_run(image: &[u8], answer: &mut [u8]) -> i64
 {
     match judge_image(image) {
         Reading::Accepted { settings, events } => answer_trace(image, settings, events, answer),
-        Reading::Refused { number, block } => answer_refused(number, block, answer),
+        Reading::Refused {
+            number,
+            block,
+            record,
+        } => answer_refused(number, block, record, answer),
     }
 }

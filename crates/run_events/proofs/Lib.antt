@@ -1,3 +1,4 @@
+pub mod Letters
 pub mod Plays
 pub mod Tells
 pub mod Traces

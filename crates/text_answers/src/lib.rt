@@ -12,6 +12,7 @@ use text_lines::tell_five;
 use text_lines::tell_four;
 use text_lines::tell_none;
 use text_lines::tell_one;
+use text_lines::tell_three;
 use text_lines::tell_two;
 
 // R c: a refusal.
@@ -81,10 +82,10 @@ pub fn tell_tallies(out: &mut [u8], at: usize, t: Tallies) -> usize
     )
 }
 
-// X c b: a refused image.
-pub fn tell_refused_image(out: &mut [u8], at: usize, number: u8, block: u32) -> usize
+// X c b r: a refused image.
+pub fn tell_refused_image(out: &mut [u8], at: usize, number: u8, block: u32, index: u32) -> usize
     requires { ⌜ at < 2 ^ 32 ⌝ }
-    ensures { λ r. ⌜ Told (now (out .entry)) at (valuesText (88 ∷ number ∷ block ∷ [])) (now (out .exit)) r ⌝ }
+    ensures { λ r. ⌜ Told (now (out .entry)) at (valuesText (88 ∷ number ∷ block ∷ index ∷ [])) (now (out .exit)) r ⌝ }
 {
-    tell_two(out, at, b'X', number as u64, block as u64)
+    tell_three(out, at, b'X', number as u64, block as u64, index as u64)
 }

@@ -206,6 +206,17 @@ pub fn tell_two(out: &mut [u8], at: usize, letter: u8, a: u64, b: u64) -> usize
     tell_end(out, end)
 }
 
+pub fn tell_three(out: &mut [u8], at: usize, letter: u8, a: u64, b: u64, c: u64) -> usize
+    requires { ⌜ at < 2 ^ 32 ⌝ }
+    ensures { λ r. ⌜ Told (now (out .entry)) at (lineText letter (a ∷ b ∷ c ∷ [])) (now (out .exit)) r ⌝ }
+{
+    let first = tell_byte(out, at, letter);
+    let second = tell_field(out, first, a);
+    let third = tell_field(out, second, b);
+    let end = tell_field(out, third, c);
+    tell_end(out, end)
+}
+
 // The second number is an instant, and seldom short.
 pub fn tell_four(out: &mut [u8], at: usize, letter: u8, a: u64, b: u64, c: u64, d: u64) -> usize
     requires { ⌜ at < 2 ^ 32 ⌝ }

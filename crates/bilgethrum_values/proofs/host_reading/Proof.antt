@@ -12,8 +12,8 @@ host-settings-requires c κs = search needs
 enum-known-answer-2 : tie.Need-enum-known-answer-2
 enum-known-answer-2 c = search needs
 
-cast-t9 : tie.Need-cast-t9
-cast-t9 c = search needs
+cast-t10 : tie.Need-cast-t10
+cast-t10 c = search needs
 
 returns : tie.Need-returns
 returns c = simp (c .before .before .answer .given .1, c .host-settings .ensures)
@@ -28,6 +28,6 @@ host-reading-spec =
     enum-known-answer
     host-settings-requires
     enum-known-answer-2
-    cast-t9
+    cast-t10
     returns
     returns-2)
