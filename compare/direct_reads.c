@@ -58,13 +58,16 @@ static void read_image(struct random *random, size_t events, const uint8_t *imag
                                                lent(INSTANTS), entries[INSTANTS]);
     count_call(CALL_READ, given.refusal);
     if (given.refusal != (uint32_t)wanted.refusal || given.block != wanted.block
-        || given.events != wanted.events || given.settings.alpha != wanted.alpha
+        || given.record != wanted.record || given.events != wanted.events
+        || given.settings.alpha != wanted.alpha
         || given.settings.ticks_per_byte != wanted.ticks_per_byte) {
-        printf("wanted: refusal %d, block %zu, events %zu, alpha %" PRIu64 ", ticks %" PRIu64 "\n"
-               "given: refusal %" PRIu32 ", block %" PRIu32 ", events %zu, alpha %" PRIu64
-               ", ticks %" PRIu32 "\n", wanted.refusal, wanted.block, wanted.events, wanted.alpha,
-               wanted.ticks_per_byte, given.refusal, given.block, given.events,
-               given.settings.alpha, given.settings.ticks_per_byte);
+        printf("wanted: refusal %d, block %zu, record %zu, events %zu, alpha %" PRIu64
+               ", ticks %" PRIu64 "\n"
+               "given: refusal %" PRIu32 ", block %" PRIu32 ", record %" PRIu32
+               ", events %zu, alpha %" PRIu64 ", ticks %" PRIu32 "\n", wanted.refusal,
+               wanted.block, wanted.record, wanted.events, wanted.alpha, wanted.ticks_per_byte,
+               given.refusal, given.block, given.record, given.events, given.settings.alpha,
+               given.settings.ticks_per_byte);
         columns_failed("a reading");
     }
     hold_lent_columns();
