@@ -71,8 +71,8 @@ enum bilgethrum_refusal {
     BILGETHRUM_REFUSED_COUNT = 14,           /* its record count is not 31, or in the last block not 1 to 31 */
     BILGETHRUM_REFUSED_BLOCK_NUMBER = 15,    /* its block number is not its place in the image */
     BILGETHRUM_REFUSED_SETTINGS = 16,        /* its settings are out of range or unlike block 0's, or bytes 14-15 not 0 */
-    BILGETHRUM_REFUSED_KIND = 17,            /* a record's kind is not 1, 2 or 3; its index is given too */
-    BILGETHRUM_REFUSED_UNUSED_BYTES = 19,    /* its unused bytes are not zero */
+    BILGETHRUM_REFUSED_KIND = 17,            /* a record's kind is not 1, 2 or 3; the record's index is given too */
+    BILGETHRUM_REFUSED_UNUSED_BYTES = 19,    /* the block's unused bytes are not zero */
     BILGETHRUM_REFUSED_COLUMN_SHORT = 20,    /* read: a lent column is shorter than the number of events */
     BILGETHRUM_REFUSED_COLUMNS_UNEQUAL = 21, /* write: the columns differ in length */
     BILGETHRUM_REFUSED_EVENT_COUNT = 22,     /* write: no event, or more than 1,984 */
