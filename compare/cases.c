@@ -79,6 +79,9 @@ static const struct {
     { "the last instant", "alpha 100 ticks 1\nu1@1000000000000000\nm1@1000000000000000\n"
       "a1000000000000000\na1000000000000000\n",
       "A 1 0\nM 2\nS 1 1000000000000000 0 0\nN\nT 1 1 1 0 0\n" },
+    { "a place may be any number",
+      "alpha 100 ticks 1\nu1@0 place 4294967295\nm1@0 place 1\nu2048@0 place 16777216\n",
+      "A 1 0\nM 2\nA 3 0\nT 2 1 0 0 0\n" },
     { "least and most settings", "alpha 1 ticks 1\nm1@0\nm2@0\n", "M 1\nR 4\nT 0 1 0 0 0\n" },
     { "most settings", "alpha 1000000 ticks 64\nm2048@0\nm2048@0 place 4294967295\n",
       "M 1\nM 2\nT 0 2 0 0 0\n" },
@@ -173,7 +176,7 @@ static void hold_longest_trace(void)
     memcpy(image + length, image, BLOCK_BYTES);
     image_put(image + length + 4, 4, MOST_BLOCKS);
     image_repair(image + length);
-    hold_written("65 blocks", length + BLOCK_BYTES, "X 11 0\n");
+    hold_written("65 blocks", length + BLOCK_BYTES, "X 11 0 0\n");
 }
 
 /* RFC 1071's example of section 3 and the sums it is put together from.  In a block
@@ -198,9 +201,9 @@ static void hold_rfc_1071(void)
         memset(image, 0, BLOCK_BYTES);
         image_put(image + 40, 8, rfc_1071_cases[i].words);
         image_put(image, 2, 0xffffu - rfc_1071_cases[i].sum);
-        hold_written("RFC 1071, right check", BLOCK_BYTES, "X 13 0\n");
+        hold_written("RFC 1071, right check", BLOCK_BYTES, "X 13 0 0\n");
         image_put(image, 2, rfc_1071_cases[i].sum);
-        hold_written("RFC 1071, check not complemented", BLOCK_BYTES, "X 12 0\n");
+        hold_written("RFC 1071, check not complemented", BLOCK_BYTES, "X 12 0 0\n");
     }
 }
 
@@ -212,15 +215,17 @@ static void hold_p10_check(void)
     image_put(image, 2, 0xfd67);
     hold_written("P10 check fd67", length, "A 1 0\nT 1 0 0 0 0\n");
     image_put(image, 2, 0xfd66);
-    hold_written("P10 check fd66", length, "X 12 0\n");
+    hold_written("P10 check fd66", length, "X 12 0 0\n");
     image_put(image, 2, 0x67fd);
-    hold_written("P10 check swapped", length, "X 12 0\n");
+    hold_written("P10 check swapped", length, "X 12 0 0\n");
     image_put(image + HEADER_BYTES + 6, 2, 0xfd67);
     image_put(image, 2, 0);
     hold_written("check 0000", length, "A 1 0\nT 1 0 0 0 0\n");
     image_put(image, 2, 0xffff);
-    hold_written("check ffff for 0000", length, "X 12 0\n");
+    hold_written("check ffff for 0000", length, "X 12 0 0\n");
 }
+
+enum { MOST_CHANGES = 3 };
 
 /* One change of the image of three blocks below; at counts from the block's start. */
 struct change {
@@ -230,67 +235,103 @@ struct change {
     uint64_t value;
 };
 
-enum { RECORD_0 = HEADER_BYTES, RECORD_1 = 32, RECORD_2 = 48, RECORD_30 = 496, LAST_BYTE = 511 };
+enum {
+    RECORD_0 = HEADER_BYTES,
+    RECORD_1 = 32,
+    RECORD_2 = 48,
+    RECORD_15 = 256,
+    RECORD_30 = 496,
+    LAST_BYTE = 511
+};
 
 /* The image has 31, 31 and 1 records; records go unmarked, marked, advance by turns,
  * so that block 1 begins with a marked one and block 2 has one advance.  Checks are
  * made right again after the changes; a changed check of a block is put in after that. */
 static const struct {
     const char *text;
-    struct change changes[2];
+    struct change changes[MOST_CHANGES];    /* up to one of 0 bytes */
 } image_cases[] = {
-    { "X 12 0\n", { { 0, 0, 2, 0x1234 } } },
-    { "X 12 1\n", { { 1, 0, 2, 0x1234 } } },
-    { "X 12 2\n", { { 2, 0, 2, 0x1234 } } },
-    { "X 13 0\n", { { 0, 2, 1, 0 } } },
-    { "X 13 1\n", { { 1, 2, 1, 2 } } },
-    { "X 13 2\n", { { 2, 2, 1, 255 } } },
-    { "X 14 0\n", { { 0, 3, 1, 30 } } },
-    { "X 14 1\n", { { 1, 3, 1, 32 } } },
-    { "X 14 2\n", { { 2, 3, 1, 0 } } },
-    { "X 14 2\n", { { 2, 3, 1, 32 } } },
-    { "X 15 0\n", { { 0, 4, 4, 1 } } },
-    { "X 15 1\n", { { 1, 4, 4, 0 } } },
-    { "X 15 2\n", { { 2, 4, 4, 0x01000002 } } },
-    { "X 16 0\n", { { 0, 8, 4, 0 } } },
-    { "X 16 0\n", { { 0, 8, 4, 1000001 } } },
-    { "X 16 0\n", { { 0, 12, 2, 0 } } },
-    { "X 16 0\n", { { 0, 12, 2, 65 } } },
-    { "X 16 0\n", { { 0, 14, 1, 1 } } },
-    { "X 16 0\n", { { 0, 15, 1, 1 } } },
-    { "X 16 1\n", { { 1, 8, 4, 101 } } },
-    { "X 16 1\n", { { 0, 8, 4, 101 } } },
-    { "X 16 1\n", { { 1, 12, 2, 2 } } },
-    { "X 16 2\n", { { 2, 12, 2, 257 } } },
-    { "X 16 2\n", { { 2, 15, 1, 1 } } },
-    { "X 17 0\n", { { 0, RECORD_0, 1, 0 } } },
-    { "X 17 0\n", { { 0, RECORD_30, 1, 4 } } },
-    { "X 17 1\n", { { 1, RECORD_0, 1, 255 } } },
-    { "X 17 2\n", { { 2, RECORD_0, 1, 0 } } },
-    { "X 18 0\n", { { 0, RECORD_0 + 1, 1, 1 } } },
-    { "X 18 0\n", { { 0, RECORD_0 + 2, 2, 0 } } },
-    { "X 18 0\n", { { 0, RECORD_1 + 2, 2, 2049 } } },
-    { "X 18 0\n", { { 0, RECORD_2 + 2, 2, 1 } } },
-    { "X 18 0\n", { { 0, RECORD_2 + 4, 4, 0x01000000 } } },
-    { "X 18 1\n", { { 1, RECORD_30 + 8, 8, MOST_INSTANT + 1 } } },
-    { "X 18 1\n", { { 1, RECORD_0 + 8, 8, UINT64_MAX } } },
-    { "X 18 2\n", { { 2, RECORD_0 + 7, 1, 1 } } },
-    { "X 18 2\n", { { 2, RECORD_0 + 8, 8, MOST_INSTANT + 1 } } },
-    { "X 19 2\n", { { 2, RECORD_1, 1, 1 } } },
-    { "X 19 2\n", { { 2, LAST_BYTE, 1, 1 } } },
-    /* Two faults in one block: the order of checking decides. */
-    { "X 12 0\n", { { 0, 2, 1, 2 }, { 0, 0, 2, 0x1234 } } },
-    { "X 13 0\n", { { 0, 2, 1, 2 }, { 0, 3, 1, 30 } } },
-    { "X 14 0\n", { { 0, 3, 1, 30 }, { 0, 4, 4, 1 } } },
-    { "X 15 0\n", { { 0, 4, 4, 1 }, { 0, 8, 4, 0 } } },
-    { "X 16 0\n", { { 0, 8, 4, 0 }, { 0, RECORD_0, 1, 0 } } },
-    { "X 17 0\n", { { 0, RECORD_0, 1, 0 }, { 0, RECORD_0 + 2, 2, 0 } } },
-    { "X 18 0\n", { { 0, RECORD_0 + 2, 2, 0 }, { 0, RECORD_1, 1, 0 } } },
-    { "X 17 0\n", { { 0, RECORD_0, 1, 0 }, { 0, RECORD_1 + 2, 2, 0 } } },
-    { "X 18 2\n", { { 2, RECORD_0 + 1, 1, 1 }, { 2, LAST_BYTE, 1, 1 } } },
-    /* Two faults in two blocks: the earlier block is judged wholly first. */
-    { "X 18 0\n", { { 0, RECORD_30 + 2, 2, 0 }, { 1, 0, 2, 0x1234 } } },
-    { "X 17 1\n", { { 1, RECORD_30, 1, 0 }, { 2, 2, 1, 2 } } },
+    { "X 12 0 0\n", { { 0, 0, 2, 0x1234 } } },
+    { "X 12 1 0\n", { { 1, 0, 2, 0x1234 } } },
+    { "X 12 2 0\n", { { 2, 0, 2, 0x1234 } } },
+    { "X 13 0 0\n", { { 0, 2, 1, 0 } } },
+    { "X 13 1 0\n", { { 1, 2, 1, 2 } } },
+    { "X 13 2 0\n", { { 2, 2, 1, 255 } } },
+    { "X 14 0 0\n", { { 0, 3, 1, 30 } } },
+    { "X 14 1 0\n", { { 1, 3, 1, 32 } } },
+    { "X 14 2 0\n", { { 2, 3, 1, 0 } } },
+    { "X 14 2 0\n", { { 2, 3, 1, 32 } } },
+    { "X 15 0 0\n", { { 0, 4, 4, 1 } } },
+    { "X 15 1 0\n", { { 1, 4, 4, 0 } } },
+    { "X 15 2 0\n", { { 2, 4, 4, 0x01000002 } } },
+    { "X 16 0 0\n", { { 0, 8, 4, 0 } } },
+    { "X 16 0 0\n", { { 0, 8, 4, 1000001 } } },
+    { "X 16 0 0\n", { { 0, 12, 2, 0 } } },
+    { "X 16 0 0\n", { { 0, 12, 2, 65 } } },
+    { "X 16 0 0\n", { { 0, 14, 1, 1 } } },
+    { "X 16 0 0\n", { { 0, 15, 1, 1 } } },
+    { "X 16 1 0\n", { { 1, 8, 4, 101 } } },
+    { "X 16 1 0\n", { { 0, 8, 4, 101 } } },
+    { "X 16 1 0\n", { { 1, 12, 2, 2 } } },
+    { "X 16 2 0\n", { { 2, 12, 2, 257 } } },
+    { "X 16 2 0\n", { { 2, 15, 1, 1 } } },
+    { "X 17 0 0\n", { { 0, RECORD_0, 1, 0 } } },
+    { "X 17 0 30\n", { { 0, RECORD_30, 1, 4 } } },
+    { "X 17 1 0\n", { { 1, RECORD_0, 1, 255 } } },
+    { "X 17 1 15\n", { { 1, RECORD_15, 1, 0 } } },
+    { "X 17 2 0\n", { { 2, RECORD_0, 1, 0 } } },
+    { "X 41 0 0\n", { { 0, RECORD_0 + 1, 1, 1 } } },
+    { "X 41 0 2\n", { { 0, RECORD_2 + 1, 1, 255 } } },
+    { "X 41 1 30\n", { { 1, RECORD_30 + 1, 1, 3 } } },
+    { "X 41 2 0\n", { { 2, RECORD_0 + 1, 1, 1 } } },
+    { "X 42 0 0\n", { { 0, RECORD_0 + 2, 2, 0 } } },
+    { "X 42 0 1\n", { { 0, RECORD_1 + 2, 2, 2049 } } },
+    { "X 42 0 2\n", { { 0, RECORD_2 + 2, 2, 1 } } },
+    { "X 42 1 15\n", { { 1, RECORD_15 + 2, 2, 0xffff } } },
+    { "X 42 2 0\n", { { 2, RECORD_0 + 2, 2, 256 } } },
+    { "X 43 0 2\n", { { 0, RECORD_2 + 4, 4, 0x01000000 } } },
+    { "X 43 1 1\n", { { 1, RECORD_1 + 4, 4, 1 } } },
+    { "X 43 2 0\n", { { 2, RECORD_0 + 7, 1, 1 } } },
+    { "X 44 0 15\n", { { 0, RECORD_15 + 8, 8, MOST_INSTANT + 1 } } },
+    { "X 44 1 0\n", { { 1, RECORD_0 + 8, 8, UINT64_MAX } } },
+    { "X 44 1 30\n", { { 1, RECORD_30 + 8, 8, MOST_INSTANT + 1 } } },
+    { "X 44 2 0\n", { { 2, RECORD_0 + 8, 8, MOST_INSTANT + 1 } } },
+    { "X 19 2 0\n", { { 2, RECORD_1, 1, 1 } } },
+    { "X 19 2 0\n", { { 2, LAST_BYTE, 1, 1 } } },
+    { "X 19 2 0\n", { { 2, 3, 1, 2 }, { 2, RECORD_1, 1, 3 }, { 2, LAST_BYTE, 1, 1 } } },
+    /* Faults in one block: the order of checking decides. */
+    { "X 12 0 0\n", { { 0, 2, 1, 2 }, { 0, 0, 2, 0x1234 } } },
+    { "X 12 1 0\n", { { 1, RECORD_15, 1, 0 }, { 1, 0, 2, 0x1234 } } },
+    { "X 13 0 0\n", { { 0, 2, 1, 2 }, { 0, 3, 1, 30 } } },
+    { "X 14 0 0\n", { { 0, 3, 1, 30 }, { 0, 4, 4, 1 } } },
+    { "X 15 0 0\n", { { 0, 4, 4, 1 }, { 0, 8, 4, 0 } } },
+    { "X 16 0 0\n", { { 0, 8, 4, 0 }, { 0, RECORD_0, 1, 0 } } },
+    { "X 16 1 0\n", { { 1, 12, 2, 2 }, { 1, RECORD_15 + 2, 2, 0 } } },
+    { "X 41 2 0\n", { { 2, RECORD_0 + 1, 1, 1 }, { 2, LAST_BYTE, 1, 1 } } },
+    { "X 44 2 0\n", { { 2, RECORD_0 + 8, 8, UINT64_MAX }, { 2, LAST_BYTE, 1, 1 } } },
+    /* In one record so, too. */
+    { "X 17 0 0\n", { { 0, RECORD_0, 1, 0 }, { 0, RECORD_0 + 2, 2, 0 } } },
+    { "X 17 0 2\n", { { 0, RECORD_2, 1, 4 }, { 0, RECORD_2 + 1, 1, 1 } } },
+    { "X 41 0 15\n", { { 0, RECORD_15 + 1, 1, 1 }, { 0, RECORD_15 + 2, 2, 0 } } },
+    { "X 42 0 2\n", { { 0, RECORD_2 + 2, 2, 1 }, { 0, RECORD_2 + 4, 4, 1 } } },
+    { "X 42 1 30\n", { { 1, RECORD_30 + 2, 2, 2049 }, { 1, RECORD_30 + 8, 8, UINT64_MAX } } },
+    { "X 43 2 0\n", { { 2, RECORD_0 + 4, 4, 1 }, { 2, RECORD_0 + 8, 8, MOST_INSTANT + 1 } } },
+    { "X 41 1 1\n", { { 1, RECORD_1 + 1, 1, 1 }, { 1, RECORD_1 + 4, 4, 1 },
+                      { 1, RECORD_1 + 8, 8, MOST_INSTANT + 1 } } },
+    /* An arrival of any place that becomes an advance keeps its length, which is refused first. */
+    { "X 42 0 1\n", { { 0, RECORD_1 + 4, 4, UINT32_MAX }, { 0, RECORD_1, 1, 3 } } },
+    { "X 43 0 1\n", { { 0, RECORD_1 + 4, 4, UINT32_MAX }, { 0, RECORD_1, 1, 3 },
+                      { 0, RECORD_1 + 2, 2, 0 } } },
+    /* In two or three records of one block: the first that is refused decides. */
+    { "X 42 0 0\n", { { 0, RECORD_0 + 2, 2, 0 }, { 0, RECORD_1, 1, 0 } } },
+    { "X 17 0 0\n", { { 0, RECORD_0, 1, 0 }, { 0, RECORD_1 + 2, 2, 0 } } },
+    { "X 44 0 1\n", { { 0, RECORD_30, 1, 0 }, { 0, RECORD_15 + 1, 1, 1 },
+                      { 0, RECORD_1 + 8, 8, MOST_INSTANT + 1 } } },
+    { "X 43 1 1\n", { { 1, RECORD_1 + 4, 4, 1 }, { 1, RECORD_30 + 1, 1, 1 } } },
+    /* In two blocks: the earlier block is judged wholly first. */
+    { "X 42 0 30\n", { { 0, RECORD_30 + 2, 2, 0 }, { 1, 0, 2, 0x1234 } } },
+    { "X 17 1 30\n", { { 1, RECORD_30, 1, 0 }, { 2, 2, 1, 2 } } },
+    { "X 44 1 15\n", { { 1, RECORD_15 + 8, 8, UINT64_MAX }, { 2, RECORD_0, 1, 0 } } },
 };
 
 static size_t three_blocks(void)
@@ -315,9 +356,9 @@ static void hold_image_cases(void)
 {
     for (size_t i = 0; i < sizeof image_cases / sizeof image_cases[0]; i++) {
         size_t length = three_blocks();
-        apply(&image_cases[i].changes[0]);
-        if (image_cases[i].changes[1].bytes != 0)
-            apply(&image_cases[i].changes[1]);
+        const struct change *changes = image_cases[i].changes;
+        for (int j = 0; j < MOST_CHANGES && changes[j].bytes != 0; j++)
+            apply(&changes[j]);
         hold_written(image_cases[i].text, length, image_cases[i].text);
     }
     static const size_t lengths[] = { 0, 1, 2, 511, 513, 1023, 1535, 64 * BLOCK_BYTES + 1,
@@ -326,11 +367,11 @@ static void hold_image_cases(void)
     memset(image, 0, sizeof image);
     three_blocks();
     for (size_t i = 0; i < sizeof lengths / sizeof lengths[0]; i++)
-        hold_written("image length", lengths[i], "X 11 0\n");
+        hold_written("image length", lengths[i], "X 11 0 0\n");
 }
 
-/* Refusals 1 and 2 never come in a text, as the reader gives 18 for such an event, nor
- * 8 and 9; so the second program's line is asked for them itself. */
+/* Refusals 1 and 2 never come in a text, as the reader gives 42 or 44 for such an event,
+ * nor 8 and 9; so the second program's line is asked for them itself. */
 static void hold_calls(void)
 {
     static struct second_line line;

@@ -18,6 +18,7 @@
 #include "generate.h"
 #include "hold.h"
 #include "image.h"
+#include "records.h"
 #include "round_trip.h"
 
 /* Fewer images need not reach everything. */
@@ -92,11 +93,13 @@ static int compare_all(uint64_t images, uint64_t seed)
     hold_trace_texts();
     hold_cases();
     hold_marker_cases();
+    hold_records();
     for (uint64_t index = 0; index < images; index++)
         compare_one(index, seed);
     for (uint64_t index = 0; index < images / IMAGES_PER_LIST; index++)
         hold_list(index, seed, false);
     bool all = print_kinds();
+    all &= print_records();
     all &= print_counters();
     all &= print_direct_counters();
     hold_print_calls();

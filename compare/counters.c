@@ -52,11 +52,15 @@ static const char *const situation_names[SITUATIONS] = {
 /* Event counts at which blocks fill up. */
 static const size_t boundary_counts[] = { 1, 30, 31, 32, 62, 63, MOST_EVENTS };
 
+/* Refusals of an image that are a block's, and those that are a record's. */
+static const int block_refusals[] = { 12, 13, 14, 15, 16, 19 };
+static const int record_refusals[] = { 17, 41, 42, 43, 44 };
+
 enum {
     BOUNDARIES = sizeof boundary_counts / sizeof boundary_counts[0],
-    FIRST_REFUSAL = 11,
-    LAST_REFUSAL = 19,
-    REFUSALS = LAST_REFUSAL + 1
+    BLOCK_REFUSALS = sizeof block_refusals / sizeof block_refusals[0],
+    RECORD_REFUSALS = sizeof record_refusals / sizeof record_refusals[0],
+    REFUSALS = 45
 };
 
 static unsigned long long situations[SITUATIONS];
@@ -64,12 +68,12 @@ static unsigned long long letters[128];
 static unsigned long long starts_dropping[3];       /* none, one, several */
 static unsigned long long unmarked_with_extra;
 static unsigned long long line_refusals[8];
-static unsigned long long image_refusals[REFUSALS][2];  /* in block 0, in a later one */
+static unsigned long long image_refusals[REFUSALS][2][2];   /* block 0 or later, record so too */
 static unsigned long long at_boundary[BOUNDARIES];
 
 static void count_line(const char *line)
 {
-    unsigned long long number, start, extra, dropped;
+    unsigned long long number, start, extra, dropped, block, record;
     letters[(unsigned char)line[0]]++;
     if (sscanf(line, "S %llu %llu %llu %llu", &number, &start, &extra, &dropped) == 4)
         starts_dropping[dropped < 2 ? dropped : 2]++;
@@ -77,8 +81,8 @@ static void count_line(const char *line)
         unmarked_with_extra += extra != 0;
     else if (sscanf(line, "R %llu", &number) == 1)
         line_refusals[number % 8]++;
-    else if (sscanf(line, "X %llu %llu", &number, &start) == 2)
-        image_refusals[number % REFUSALS][start != 0]++;
+    else if (sscanf(line, "X %llu %llu %llu", &number, &block, &record) == 3)
+        image_refusals[number % REFUSALS][block != 0][record != 0]++;
 }
 
 void count_text(const struct text *text)
@@ -226,17 +230,23 @@ static bool print_lines(void)
     return all & print_counter(letters['T'], "T tally lines");
 }
 
-/* 11 has block 0 only; every other refusal must come in block 0 and in a later one. */
+/* 11 has block 0 only; every other refusal must come in block 0 and in a later one, and a
+ * record's in record 0 and in a later one of each. */
 static bool print_image_refusals(void)
 {
+    static const char *const blocks[] = { "block 0", "a later block" };
+    static const char *const records[] = { "record 0", "a later record" };
     char name[64];
-    bool all = true;
-    for (int refusal = FIRST_REFUSAL; refusal <= LAST_REFUSAL; refusal++) {
-        snprintf(name, sizeof name, "X %d 0", refusal);
-        all &= print_counter(image_refusals[refusal][0], name);
-        snprintf(name, sizeof name, "X %d in a later block", refusal);
-        if (refusal != FIRST_REFUSAL)
-            all &= print_counter(image_refusals[refusal][1], name);
+    bool all = print_counter(image_refusals[11][0][0], "X 11");
+    for (int i = 0; i < 2 * BLOCK_REFUSALS; i++) {
+        int refusal = block_refusals[i / 2], block = i % 2;
+        snprintf(name, sizeof name, "X %d in %s", refusal, blocks[block]);
+        all &= print_counter(image_refusals[refusal][block][0], name);
+    }
+    for (int i = 0; i < 4 * RECORD_REFUSALS; i++) {
+        int refusal = record_refusals[i / 4], block = i / 2 % 2, record = i % 2;
+        snprintf(name, sizeof name, "X %d in %s of %s", refusal, records[record], blocks[block]);
+        all &= print_counter(image_refusals[refusal][block][record], name);
     }
     return all;
 }

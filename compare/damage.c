@@ -7,6 +7,7 @@ const char *const damage_names[DAMAGES] = {
     [ONE_BIT] = "one bit flipped",
     [ONE_FIELD] = "one field changed, check right again",
     [TWO_FIELDS] = "two fields changed, checks right again",
+    [ONE_RECORD] = "one or two fields of a record changed, check right again",
     [UNUSED_BYTE] = "unused byte set, check right again",
     [WRONG_CHECK] = "check replaced",
     [CHECK_ZERO] = "check made 0000 by a place",
@@ -89,15 +90,29 @@ static void change_record(struct random *random, uint8_t *record)
     }
 }
 
+static uint8_t *pick_record(struct random *random, uint8_t *block)
+{
+    bool told = block[3] >= 1 && block[3] <= RECORDS_PER_BLOCK;
+    uint64_t records = told ? block[3] : RECORDS_PER_BLOCK;
+    const uint64_t picks[] = { 0, records - 1, random_below(random, records) };
+    return block + HEADER_BYTES + picks[random_below(random, 3)] * RECORD_BYTES;
+}
+
 static void change_field(struct random *random, uint8_t *block)
 {
-    if (random_percent(random, 50)) {
+    if (random_percent(random, 50))
         change_header(random, block);
-    } else {
-        bool told = block[3] >= 1 && block[3] <= RECORDS_PER_BLOCK;
-        uint64_t record = random_below(random, told ? block[3] : RECORDS_PER_BLOCK);
-        change_record(random, block + HEADER_BYTES + record * RECORD_BYTES);
-    }
+    else
+        change_record(random, pick_record(random, block));
+    image_repair(block);
+}
+
+static void change_one_record(struct random *random, uint8_t *block)
+{
+    uint8_t *record = pick_record(random, block);
+    change_record(random, record);
+    if (random_percent(random, 50))
+        change_record(random, record);
     image_repair(block);
 }
 
@@ -222,6 +237,9 @@ size_t damage_image(enum damage damage, struct random *random, uint8_t *image, s
         return length;
     case ONE_FIELD:
         change_field(random, block);
+        return length;
+    case ONE_RECORD:
+        change_one_record(random, block);
         return length;
     case UNUSED_BYTE:
         set_unused_byte(random, image + length - BLOCK_BYTES);

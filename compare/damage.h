@@ -9,6 +9,7 @@ enum damage {
     ONE_BIT,
     ONE_FIELD,
     TWO_FIELDS,
+    ONE_RECORD,
     UNUSED_BYTE,
     WRONG_CHECK,
     CHECK_ZERO,                 /* no damage: a check that comes to 0000 */

@@ -18,6 +18,9 @@ void hold_writes(uint64_t index, uint64_t seed, bool aloud);
 void hold_views(uint64_t index, uint64_t seed, bool aloud);
 void hold_markers(uint64_t index, uint64_t seed, bool aloud);
 
+/* Reads one image into columns of so many entries each. */
+void hold_read(const uint8_t *image, size_t length, size_t entries);
+
 /* Makes the trace's calls one by one. */
 void hold_trace_by_calls(const char *name, const struct trace *trace);
 

@@ -7,13 +7,13 @@ enum { REFUSALS = 54 };
 
 static const struct {
     const char *name;
-    uint32_t refusals[12];      /* those that must be reached, up to a 0 */
+    uint32_t refusals[14];      /* those that must be reached, up to a 0 */
 } calls[CALL_NAMES] = {
     [CALL_OPEN] = { "open", { 8, 9 } },
     [CALL_ARRIVE] = { "arrive", { 1, 2, 3, 4, 5, 6 } },
     [CALL_ADVANCE] = { "advance", { 2, 3 } },
     [CALL_TALLY] = { "tally", { 0 } },
-    [CALL_READ] = { "read", { 11, 12, 13, 14, 15, 16, 17, 18, 19, 20 } },
+    [CALL_READ] = { "read", { 11, 12, 13, 14, 15, 16, 17, 41, 42, 43, 44, 19, 20 } },
     [CALL_WRITE] = { "write", { 8, 9, 21, 22, 23, 24 } },
     [CALL_VIEW] = { "view", { 1, 31 } },
     [CALL_OPEN_MARKER] = { "open marker", { 51, 52, 53 } },

@@ -37,15 +37,9 @@ static void pick_entries(struct random *random, size_t events, size_t *entries)
             random_percent(random, 50) ? events - 1 : random_below(random, events);
 }
 
-static void read_image(struct random *random, size_t events, const uint8_t *image, size_t length,
-                       bool aloud)
+static void read_into(const size_t entries[COLUMNS], const uint8_t *image, size_t length,
+                      bool at_end)
 {
-    size_t entries[COLUMNS];
-    bool at_end = random_percent(random, 50);
-    pick_entries(random, events, entries);
-    if (aloud)
-        printf("read an image of %zu bytes into columns of %zu, %zu, %zu and %zu\n", length,
-               entries[KINDS], entries[LENGTHS], entries[PLACES], entries[INSTANTS]);
     lend_columns(entries, at_end);
     struct area lent_image = lend(&image_room, length, 1, at_end);
     memcpy(area_bytes(&lent_image), image, length);
@@ -58,19 +52,39 @@ static void read_image(struct random *random, size_t events, const uint8_t *imag
                                                lent(INSTANTS), entries[INSTANTS]);
     count_call(CALL_READ, given.refusal);
     if (given.refusal != (uint32_t)wanted.refusal || given.block != wanted.block
-        || given.events != wanted.events || given.settings.alpha != wanted.alpha
+        || given.record != wanted.record || given.events != wanted.events
+        || given.settings.alpha != wanted.alpha
         || given.settings.ticks_per_byte != wanted.ticks_per_byte) {
-        printf("wanted: refusal %d, block %zu, events %zu, alpha %" PRIu64 ", ticks %" PRIu64 "\n"
-               "given: refusal %" PRIu32 ", block %" PRIu32 ", events %zu, alpha %" PRIu64
-               ", ticks %" PRIu32 "\n", wanted.refusal, wanted.block, wanted.events, wanted.alpha,
-               wanted.ticks_per_byte, given.refusal, given.block, given.events,
-               given.settings.alpha, given.settings.ticks_per_byte);
+        printf("wanted: refusal %d, block %zu, record %zu, events %zu, alpha %" PRIu64
+               ", ticks %" PRIu64 "\n"
+               "given: refusal %" PRIu32 ", block %" PRIu32 ", record %" PRIu32
+               ", events %zu, alpha %" PRIu64 ", ticks %" PRIu32 "\n", wanted.refusal,
+               wanted.block, wanted.record, wanted.events, wanted.alpha, wanted.ticks_per_byte,
+               given.refusal, given.block, given.record, given.events, given.settings.alpha,
+               given.settings.ticks_per_byte);
         columns_failed("a reading");
     }
     hold_lent_columns();
     hold_lent(&lent_image, image, "an image that is only read, or bytes around it");
     if (wanted.refusal == 0 && entries[KINDS] != entries[LENGTHS])
         count_outcome(READ_INTO_LONGER_COLUMNS);
+}
+
+void hold_read(const uint8_t *image, size_t length, size_t entries)
+{
+    read_into((const size_t[COLUMNS]){ entries, entries, entries, entries }, image, length, true);
+}
+
+static void read_image(struct random *random, size_t events, const uint8_t *image, size_t length,
+                       bool aloud)
+{
+    size_t entries[COLUMNS];
+    bool at_end = random_percent(random, 50);
+    pick_entries(random, events, entries);
+    if (aloud)
+        printf("read an image of %zu bytes into columns of %zu, %zu, %zu and %zu\n", length,
+               entries[KINDS], entries[LENGTHS], entries[PLACES], entries[INSTANTS]);
+    read_into(entries, image, length, at_end);
 }
 
 void hold_reads(uint64_t index, uint64_t seed, bool aloud)

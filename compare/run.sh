@@ -77,8 +77,19 @@ printf 'alpha 100 ticks 1\nu50@0\nu0@0\n' | tool pack 2>"$said" || status=$?
 refuses '^tracetext: line 3: length' 'a trace text with a length of 0' $status
 status=0
 head -c 511 target/compare/printed.image | tool unpack 2>"$said" || status=$?
-refuses 'refused with 11 in block 0' 'a cut image' $status
+refuses 'refused with 11 in block 0: ' 'a cut image' $status
+status=0
+tool unpack <crates/case_run/data/place 2>"$said" || status=$?
+refuses 'refused with 43 in block 1, record 7: place' 'an advance with a place' $status
 printf '%s bundled traces packed, unpacked and judged\n' "$traces"
+
+# The images of crates/case_run, refused ones among them, have the texts that it must print.
+images=target/compare/case_run.text
+while read -r name; do
+    printf '%s\n' "$name"
+    bench "crates/case_run/data/$name"
+done <crates/case_run/args >"$images"
+cmp -s "$images" crates/case_run/stdout || failed 'an image of crates/case_run has another text'
 
 # The example host prints the printed case, and shows refusal 5 where its duty is not done.
 host() {

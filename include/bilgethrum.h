@@ -8,7 +8,7 @@
  * below, and a refused call changes no byte of anything lent; only a refused opening
  * still opens its line or its marker.  Line and marker share the refusals 1, 2 and 3.
  * Numbers that an answer has no use for are 0: where a call is refused, all but the
- * refusal, and the block where an image is.
+ * refusal, and the block and the record where an image is.
  *
  * Structs.  They are laid out and handed over as the System V ABI for x86-64 says, with
  * no packing pragma or option in force.  The bytes between their members mean nothing:
@@ -35,8 +35,8 @@ extern "C" {
 /* The version of these declarations: the first number grows where a host has to be
  * changed or compiled anew, the second where something is added, or less is asked of
  * a host. */
-#define BILGETHRUM_VERSION_MAJOR 1
-#define BILGETHRUM_VERSION_MINOR 2
+#define BILGETHRUM_VERSION_MAJOR 2
+#define BILGETHRUM_VERSION_MINOR 0
 
 #define BILGETHRUM_STACK_BYTES 1024
 #define BILGETHRUM_RUN_STACK_BYTES 6144
@@ -71,16 +71,19 @@ enum bilgethrum_refusal {
     BILGETHRUM_REFUSED_COUNT = 14,           /* its record count is not 31, or in the last block not 1 to 31 */
     BILGETHRUM_REFUSED_BLOCK_NUMBER = 15,    /* its block number is not its place in the image */
     BILGETHRUM_REFUSED_SETTINGS = 16,        /* its settings are out of range or unlike block 0's, or bytes 14-15 not 0 */
-    BILGETHRUM_REFUSED_KIND = 17,            /* a record's kind is not 1, 2 or 3 */
-    BILGETHRUM_REFUSED_FIELD = 18,           /* another field of a record is out of range */
-    BILGETHRUM_REFUSED_UNUSED_BYTES = 19,    /* its unused bytes are not zero */
+    BILGETHRUM_REFUSED_KIND = 17,            /* a record's kind is not 1, 2 or 3; the record's index is given too */
+    BILGETHRUM_REFUSED_UNUSED_BYTES = 19,    /* the block's unused bytes are not zero */
     BILGETHRUM_REFUSED_COLUMN_SHORT = 20,    /* read: a lent column is shorter than the number of events */
     BILGETHRUM_REFUSED_COLUMNS_UNEQUAL = 21, /* write: the columns differ in length */
     BILGETHRUM_REFUSED_EVENT_COUNT = 22,     /* write: no event, or more than 1,984 */
-    BILGETHRUM_REFUSED_EVENT = 23,           /* write: an event that the reader would refuse with 17 or 18 */
+    BILGETHRUM_REFUSED_EVENT = 23,           /* write: an event that the reader would refuse with 17 or 41 to 44 */
     BILGETHRUM_REFUSED_IMAGE_SHORT = 24,     /* write: the lent image is too short */
     BILGETHRUM_REFUSED_OUTSIDE = 31,         /* view: the payload reaches beyond its area */
     BILGETHRUM_REFUSED_ANSWER_SHORT = 32,    /* run: the answer area is shorter than the text; run gives -32 */
+    BILGETHRUM_REFUSED_SPARE_BYTE = 41,      /* read, in the record whose index is given too: byte 1 is not 0 */
+    BILGETHRUM_REFUSED_RECORD_LENGTH = 42,   /* its length is not 1 to 2,048, or an advance's not 0 */
+    BILGETHRUM_REFUSED_RECORD_PLACE = 43,    /* it is an advance and its place is not 0 */
+    BILGETHRUM_REFUSED_RECORD_INSTANT = 44,  /* its instant is above 10^15 */
     BILGETHRUM_REFUSED_FLOW = 51,            /* open_marker: no flow, or more than 8; mark: a flow that was not opened */
     BILGETHRUM_REFUSED_RATE = 52,            /* open_marker: a flow's rate not 1 to 10,000,000 */
     BILGETHRUM_REFUSED_DEPTH = 53            /* open_marker: a flow's depth not 1 to 65,535 */
@@ -213,15 +216,17 @@ enum bilgethrum_kind {
 };
 
 typedef struct bilgethrum_reading {
-    uint32_t refusal; /* 0, or 11 to 20 */
+    uint32_t refusal; /* 0, 11 to 17, 19, 20, or 41 to 44 */
     uint32_t block;   /* the index of the refused block; 0 for 11 and 20 */
-    size_t events;  /* how many were read; 0 where refused */
+    uint32_t record;  /* the index of the refused record in its block, for 17 and 41 to 44; else 0 */
+    size_t events;    /* how many were read; 0 where refused */
     bilgethrum_settings settings; /* the image's; both 0 where refused */
 } bilgethrum_reading;
 
 /* Reads an image into four columns, entry i of each for event i.  They may differ in
  * length, and BILGETHRUM_MOST_EVENTS entries are always enough.  Entries beyond the
- * events stay as they were. */
+ * events stay as they were.  Blocks are judged in order: each for 12 to 16, then record
+ * by record for 17 and 41 to 44, last for 19.  Blocks and records count from 0. */
 bilgethrum_reading bilgethrum_read(const uint8_t *image, size_t image_len,
                                    uint8_t *kinds, size_t kinds_len,
                                    uint32_t *lengths, size_t lengths_len,
@@ -278,7 +283,8 @@ uint32_t bilgethrum_view_refusal(const uint8_t *unmarked, size_t unmarked_len,
  * Gives the text's length in bytes; there is no closing zero byte.  Bytes of the
  * area beyond the text stay as they were.  Where the area is shorter than the text
  * it gives BILGETHRUM_AREA_TOO_SHORT and the whole area stays as it was.  A refused
- * image is an ordinary outcome: its text is the one line "X c b". */
+ * image is an ordinary outcome: its text is the one line "X c b r", with the refusal,
+ * the block and the record that bilgethrum_read gives. */
 int64_t bilgethrum_run(const uint8_t *image, size_t image_len,
                        uint8_t *answer, size_t answer_len);
 

@@ -141,7 +141,8 @@ static int64_t tell_verdict(struct baseline_verdict verdict, uint8_t *answer, si
     uint8_t text[TALLY_LINE + BEYOND];
     uint8_t *end = put_two(text, 'X', ' ');
     end = baseline_put_short(end, (uint32_t)verdict.refusal, ' ');
-    end = baseline_put_short(end, (uint32_t)verdict.block, '\n');
+    end = baseline_put_short(end, (uint32_t)verdict.block, ' ');
+    end = baseline_put_short(end, (uint32_t)verdict.record, '\n');
     return hand_over(text, end, answer, answer_len);
 }
 

@@ -74,7 +74,7 @@ int64_t second_run(const uint8_t *image, size_t image_len, uint8_t *answer, size
     text.length = 0;
     struct second_verdict verdict = second_read(image, image_len, &trace);
     if (verdict.refusal != 0)
-        print(&text, "X %d %zu\n", verdict.refusal, verdict.block);
+        print(&text, "X %d %zu %zu\n", verdict.refusal, verdict.block, verdict.record);
     else
         print_run(&text, &trace);
     if (answer_len < text.length)

@@ -4,10 +4,12 @@
 
 #include "trace.h"
 
-/* refusal is 0 where the image is taken. */
+/* refusal is 0 where the image is taken.  record counts in its block, and is 0 for every refusal
+ * that is not a record's. */
 struct second_verdict {
     int refusal;
     size_t block;
+    size_t record;
 };
 
 /* trace is filled only where the image is taken. */

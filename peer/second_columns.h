@@ -20,6 +20,7 @@ struct second_columns {
 struct second_reading {
     int refusal;
     size_t block;
+    size_t record;
     size_t events;
     uint64_t alpha;
     uint64_t ticks_per_byte;

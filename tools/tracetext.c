@@ -33,13 +33,37 @@ static int pack(const uint8_t *input, size_t length)
     return put_out(image, trace_to_image(&trace, image));
 }
 
+/* What each refusal of an image demands. */
+static const char *const demands[] = {
+    [11] = "the image must be 1 to 64 blocks of 512 bytes",
+    [12] = "the check must be that of the block",
+    [13] = "edition must be 1",
+    [14] = "record count must be 31, in the last block 1 to 31",
+    [15] = "block number must be the block's index",
+    [16] = "alpha must be 1 to 1000000, ticks 1 to 64, both those of block 0; bytes 14-15 must be 0",
+    [17] = "kind must be 1, 2 or 3",
+    [19] = "unused bytes must be 0",
+    [41] = "byte 1, the spare byte, must be 0",
+    [42] = "length must be 1 to 2048, in an advance 0",
+    [43] = "place must be 0 in an advance",
+    [44] = "instant must be 0 to 1000000000000000",
+};
+
+static void tell_refusal(struct second_verdict verdict)
+{
+    fprintf(stderr, "tracetext: image refused with %d in block %zu", verdict.refusal,
+            verdict.block);
+    if (verdict.refusal == 17 || verdict.refusal >= 41)
+        fprintf(stderr, ", record %zu", verdict.record);
+    fprintf(stderr, ": %s\n", demands[verdict.refusal]);
+}
+
 static int unpack(const uint8_t *input, size_t length)
 {
     static char text[TRACE_TEXT_ENOUGH];
     struct second_verdict verdict = second_read(input, length, &trace);
     if (verdict.refusal != 0) {
-        fprintf(stderr, "tracetext: image refused with %d in block %zu\n", verdict.refusal,
-                verdict.block);
+        tell_refusal(verdict);
         return 1;
     }
     return put_out(text, trace_to_text(&trace, text));
