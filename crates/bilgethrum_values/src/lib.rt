@@ -230,7 +230,7 @@ pub fn host_reading(answer: Reading) -> HostReading
         Reading::Refused {
             number,
             block,
-            record,
+            record: index,
         } => {
             let none = HostSettings {
                 alpha: 0,
@@ -239,7 +239,7 @@ pub fn host_reading(answer: Reading) -> HostReading
             HostReading {
                 refusal: number as u32,
                 block,
-                record,
+                record: index,
                 events: 0,
                 settings: none,
             }

@@ -64,7 +64,7 @@ pub fn whole_run(image: &[u8], answer: &mut [u8]) -> i64
         Reading::Refused {
             number,
             block,
-            record,
-        } => answer_refused(number, block, record, answer),
+            record: index,
+        } => answer_refused(number, block, index, answer),
     }
 }
