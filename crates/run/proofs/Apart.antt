@@ -9,7 +9,7 @@ use Rattle.block_image.specs.Image.{judged}
 use Rattle.block_image.proofs.Named.{refused-small}
 use Rattle.text.proofs.ReadBack.{lines-read-back}
 use Rattle.run_events.proofs.Letters.{trace-no-x}
-use Rattle.run.specs.Text.{refusedText, readText, textOf}
+use Rattle.run.specs.Text.{refusedText, readText}
 use Rattle.run.specs.Apart.{TextTellsRefusal}
 
 -- One line tells its three numbers.
