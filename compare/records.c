@@ -229,6 +229,7 @@ bool print_records(void)
         all &= print_row(reached[i], name);
     }
     all &= print_row(reached[NO_FIELD], "right");
-    printf("%12llu  two bad records, of which the first decides\n", pairs_held);
-    return all;
+    printf("%12llu  two bad records, of which the first decides%s\n", pairs_held,
+           pairs_held != 0 ? "" : "   <-- NEVER REACHED");
+    return all && pairs_held != 0;
 }

@@ -6,7 +6,7 @@
 
 void hold_records(void);
 
-/* Gives whether every refusal of a record came at each of the places. */
+/* Gives whether every refusal of a record came at each of the places, and two bad records came. */
 bool print_records(void);
 
 #endif

@@ -78,9 +78,24 @@ refuses '^tracetext: line 3: length' 'a trace text with a length of 0' $status
 status=0
 head -c 511 target/compare/printed.image | tool unpack 2>"$said" || status=$?
 refuses 'refused with 11 in block 0: ' 'a cut image' $status
-status=0
-tool unpack <crates/case_run/data/place 2>"$said" || status=$?
-refuses 'refused with 43 in block 1, record 7: place' 'an advance with a place' $status
+# Each refused image of crates/case_run has the words of its field.
+while read -r name words; do
+    status=0
+    tool unpack <"crates/case_run/data/$name" 2>"$said" || status=$?
+    refuses "refused with $words" "the image $name" $status
+done <<'END'
+check 12 in block 0: the check
+edition 13 in block 0: edition
+count 14 in block 0: record count
+number 15 in block 1: block number
+settings 16 in block 1: alpha
+kind 17 in block 0, record 0: kind
+spare_byte 41 in block 0, record 3: byte 1
+length 42 in block 0, record 0: length
+place 43 in block 1, record 7: place
+instant 44 in block 1, record 30: instant
+unused 19 in block 0: unused bytes
+END
 printf '%s bundled traces packed, unpacked and judged\n' "$traces"
 
 # The images of crates/case_run, refused ones among them, have the texts that it must print.

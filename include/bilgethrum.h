@@ -225,8 +225,9 @@ typedef struct bilgethrum_reading {
 
 /* Reads an image into four columns, entry i of each for event i.  They may differ in
  * length, and BILGETHRUM_MOST_EVENTS entries are always enough.  Entries beyond the
- * events stay as they were.  Blocks are judged in order: each for 12 to 16, then record
- * by record for 17 and 41 to 44, last for 19.  Blocks and records count from 0. */
+ * events stay as they were.  After 11 blocks are judged in order: each for 12 to 16, then
+ * record by record for 17 and 41 to 44, last for 19; 20 comes where no block is refused.
+ * Blocks and records count from 0. */
 bilgethrum_reading bilgethrum_read(const uint8_t *image, size_t image_len,
                                    uint8_t *kinds, size_t kinds_len,
                                    uint32_t *lengths, size_t lengths_len,
