@@ -77,7 +77,7 @@ printf 'alpha 100 ticks 1\nu50@0\nu0@0\n' | tool pack 2>"$said" || status=$?
 refuses '^tracetext: line 3: length' 'a trace text with a length of 0' $status
 status=0
 head -c 511 target/compare/printed.image | tool unpack 2>"$said" || status=$?
-refuses 'refused with 11 in block 0: ' 'a cut image' $status
+refuses 'refused with 11: the image must be' 'a cut image' $status
 # Each refused image of crates/case_run has the words of its field.
 while read -r name words; do
     status=0
@@ -89,11 +89,12 @@ edition 13 in block 0: edition
 count 14 in block 0: record count
 number 15 in block 1: block number
 settings 16 in block 1: alpha
-kind 17 in block 0, record 0: kind
-spare_byte 41 in block 0, record 3: byte 1
-length 42 in block 0, record 0: length
-place 43 in block 1, record 7: place
-instant 44 in block 1, record 30: instant
+header_spare 16 in block 0: alpha
+kind 17 in block 0, record 0, at byte 16: kind
+spare_byte 41 in block 0, record 3, at byte 64: byte 1
+length 42 in block 0, record 0, at byte 16: length
+place 43 in block 1, record 7, at byte 640: place
+instant 44 in block 1, record 30, at byte 1008: instant
 unused 19 in block 0: unused bytes
 END
 printf '%s bundled traces packed, unpacked and judged\n' "$traces"

@@ -49,12 +49,15 @@ static const char *const demands[] = {
     [44] = "instant must be 0 to 1000000000000000",
 };
 
+/* Names the block, and of a record also the byte of the image at which it begins. */
 static void tell_refusal(struct second_verdict verdict)
 {
-    fprintf(stderr, "tracetext: image refused with %d in block %zu", verdict.refusal,
-            verdict.block);
+    fprintf(stderr, "tracetext: image refused with %d", verdict.refusal);
+    if (verdict.refusal != 11)
+        fprintf(stderr, " in block %zu", verdict.block);
     if (verdict.refusal == 17 || verdict.refusal >= 41)
-        fprintf(stderr, ", record %zu", verdict.record);
+        fprintf(stderr, ", record %zu, at byte %zu", verdict.record,
+                verdict.block * BLOCK_BYTES + HEADER_BYTES + verdict.record * RECORD_BYTES);
     fprintf(stderr, ": %s\n", demands[verdict.refusal]);
 }
 
