@@ -4,8 +4,8 @@ use mathlib.Core.List.{List, _++_}
 use Prim.Native.Nat.{ℕ, _+_, _<_}
 use native.Mathlib.Omega.{arith}
 use lib.ListN.{length, length-append}
-use Rattle.text_lines.specs.Put.{Put}
-use Rattle.text_lines.proofs.Puts.{put-then}
+use Rattle.text_digits.specs.Put.{Put}
+use Rattle.text_digits.proofs.Puts.{put-then}
 use Rattle.text_lines.specs.Told.{Told}
 
 -- A text that was put was told.

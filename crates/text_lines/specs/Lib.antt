@@ -1,3 +1,1 @@
-pub mod Groups
-pub mod Put
 pub mod Told

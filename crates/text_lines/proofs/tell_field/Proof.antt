@@ -2,7 +2,7 @@
 use native.Mathlib.Omega.{arith}
 use borrow.Author.Tests.{leb-false}
 use Rattle.text.proofs.Digits.{decimal-most}
-use Rattle.text_lines.proofs.Puts.{put-then}
+use Rattle.text_digits.proofs.Puts.{put-then}
 use Rattle.text_lines.proofs.Tells.{told-put}
 use borrow.Author.Needs.{needs}
 use Rattle.text_lines.proofs.tell_field.Statement.{statement}

@@ -1,4 +1,4 @@
--- `text_lines::decimal_length` meets its contract. The loop's invariant: digits counted and digits left are the number's, and one. Assumes nothing.
+-- `text_digits::decimal_length` meets its contract. The loop's invariant: digits counted and digits left are the number's, and one. Assumes nothing.
 use mathlib.Core.Path.{_≡_, ap}
 use Prim.Native.Nat.{_+_, _≤_}
 use native.Mathlib.Omega.{arith}
@@ -6,8 +6,8 @@ use lib.ListN.{length}
 use borrow.Author.Needs.{needs}
 use Rattle.text.specs.Text.{decimal}
 use Rattle.text.proofs.Digits.{one-digit, length-last, decimal-most}
-use Rattle.text_lines.proofs.decimal_length.Statement.{statement}
-use Rattle.text_lines.proofs.decimal_length.Tie as tie
+use Rattle.text_digits.proofs.decimal_length.Statement.{statement}
+use Rattle.text_digits.proofs.decimal_length.Tie as tie
 
 abbrev Inv-loop : tie.InvT-loop
 Inv-loop v rest₀ digits₀ rest digits = (digits + length (decimal rest) ≡ 1 + length (decimal v)) × (rest ≤ v)

@@ -1,11 +1,11 @@
--- `text_lines::put_two` meets its contract: two bytes, one behind the other. Assumes nothing.
+-- `text_digits::put_two` meets its contract: two bytes, one behind the other. Assumes nothing.
 use mathlib.Core.Path.{_≡_}
 use Prim.Native.Nat.{_-_, _*_, _/_, _%_}
 use native.Mathlib.Omega.{arith}
-use Rattle.text_lines.proofs.Puts.{put-then}
+use Rattle.text_digits.proofs.Puts.{put-then}
 use borrow.Author.Needs.{needs}
-use Rattle.text_lines.proofs.put_two.Statement.{statement}
-use Rattle.text_lines.proofs.put_two.Tie as tie
+use Rattle.text_digits.proofs.put_two.Statement.{statement}
+use Rattle.text_digits.proofs.put_two.Tie as tie
 
 add-put-byte : tie.Need-add-put-byte
 add-put-byte c = search needs

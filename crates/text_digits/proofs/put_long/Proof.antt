@@ -1,11 +1,11 @@
--- `text_lines::put_long` meets its contract: the upper digits, then eight digits, once or twice. Assumes nothing.
+-- `text_digits::put_long` meets its contract: the upper digits, then eight digits, once or twice. Assumes nothing.
 use Prim.Native.Nat.{_/_}
 use native.Mathlib.Omega.{arith}
-use Rattle.text_lines.proofs.Groups.{last-eight, length-eight}
-use Rattle.text_lines.proofs.Puts.{put-then}
+use Rattle.text_digits.proofs.Groups.{last-eight, length-eight}
+use Rattle.text_digits.proofs.Puts.{put-then}
 use borrow.Author.Needs.{needs}
-use Rattle.text_lines.proofs.put_long.Statement.{statement}
-use Rattle.text_lines.proofs.put_long.Tie as tie
+use Rattle.text_digits.proofs.put_long.Statement.{statement}
+use Rattle.text_digits.proofs.put_long.Tie as tie
 
 cast-put-middle : tie.Need-cast-put-middle
 cast-put-middle c = search needs

@@ -6,7 +6,7 @@ use native.Mathlib.Omega.{arith}
 use lib.ListN.{length, length-append}
 use Rattle.text.specs.Text.{digit, decimal}
 use Rattle.text.proofs.Digits.{one-digit, last-digit}
-use Rattle.text_lines.specs.Groups.{two, four, eight}
+use Rattle.text_digits.specs.Groups.{two, four, eight}
 
 pub two-digits : (v : ℕ) → 10 ≤ v → v < 100 → decimal v ≡ two v
 two-digits v h b = last-digit v h (omega arith) ∙ rw (one-digit (v / 10) (omega arith))

@@ -1,12 +1,12 @@
--- `text_lines::put_short` meets its contract: at most two digits, or two digits behind the others. Assumes nothing.
+-- `text_digits::put_short` meets its contract: at most two digits, or two digits behind the others. Assumes nothing.
 use mathlib.Core.Path.{_≡_}
 use Prim.Native.Nat.{_-_, _*_, _/_, _%_}
 use native.Mathlib.Omega.{arith}
-use Rattle.text_lines.proofs.Groups.{last-two, length-two}
-use Rattle.text_lines.proofs.Puts.{put-then}
+use Rattle.text_digits.proofs.Groups.{last-two, length-two}
+use Rattle.text_digits.proofs.Puts.{put-then}
 use borrow.Author.Needs.{needs}
-use Rattle.text_lines.proofs.put_short.Statement.{statement}
-use Rattle.text_lines.proofs.put_short.Tie as tie
+use Rattle.text_digits.proofs.put_short.Statement.{statement}
+use Rattle.text_digits.proofs.put_short.Tie as tie
 
 put-least-requires : tie.Need-put-least-requires
 put-least-requires c κs = search needs

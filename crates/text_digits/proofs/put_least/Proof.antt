@@ -1,12 +1,12 @@
--- `text_lines::put_least` meets its contract: one digit or two. Assumes nothing.
+-- `text_digits::put_least` meets its contract: one digit or two. Assumes nothing.
 use mathlib.Core.Path.{ap}
 use native.Mathlib.Omega.{arith}
 use lib.ListN.{length}
 use Rattle.text.proofs.Digits.{one-digit}
-use Rattle.text_lines.proofs.Groups.{two-digits}
+use Rattle.text_digits.proofs.Groups.{two-digits}
 use borrow.Author.Needs.{needs}
-use Rattle.text_lines.proofs.put_least.Statement.{statement}
-use Rattle.text_lines.proofs.put_least.Tie as tie
+use Rattle.text_digits.proofs.put_least.Statement.{statement}
+use Rattle.text_digits.proofs.put_least.Tie as tie
 
 add-put-byte : tie.Need-add-put-byte
 add-put-byte c = search needs

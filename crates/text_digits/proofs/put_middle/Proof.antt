@@ -1,12 +1,12 @@
--- `text_lines::put_middle` meets its contract: at most four digits, or four digits behind the others. Assumes nothing.
+-- `text_digits::put_middle` meets its contract: at most four digits, or four digits behind the others. Assumes nothing.
 use mathlib.Core.Path.{_≡_}
 use Prim.Native.Nat.{_-_, _*_, _/_, _%_}
 use native.Mathlib.Omega.{arith}
-use Rattle.text_lines.proofs.Groups.{last-four, length-four}
-use Rattle.text_lines.proofs.Puts.{put-then}
+use Rattle.text_digits.proofs.Groups.{last-four, length-four}
+use Rattle.text_digits.proofs.Puts.{put-then}
 use borrow.Author.Needs.{needs}
-use Rattle.text_lines.proofs.put_middle.Statement.{statement}
-use Rattle.text_lines.proofs.put_middle.Tie as tie
+use Rattle.text_digits.proofs.put_middle.Statement.{statement}
+use Rattle.text_digits.proofs.put_middle.Tie as tie
 
 put-short-requires : tie.Need-put-short-requires
 put-short-requires c κs = search needs

@@ -1,8 +1,8 @@
--- `text_lines::put_field` meets its contract: a space, then the number. Assumes nothing.
+-- `text_digits::put_field` meets its contract: a space, then the number. Assumes nothing.
 use borrow.Author.Needs.{needs}
-use Rattle.text_lines.proofs.Puts.{put-then}
-use Rattle.text_lines.proofs.put_field.Statement.{statement}
-use Rattle.text_lines.proofs.put_field.Tie as tie
+use Rattle.text_digits.proofs.Puts.{put-then}
+use Rattle.text_digits.proofs.put_field.Statement.{statement}
+use Rattle.text_digits.proofs.put_field.Tie as tie
 
 put-byte-requires : tie.Need-put-byte-requires
 put-byte-requires c κs = search needs

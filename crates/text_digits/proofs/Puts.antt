@@ -5,7 +5,7 @@ use Prim.Native.Nat.{ℕ}
 use native.Mathlib.Omega.{arith}
 use lib.ListN.{length, length-append}
 use Rattle.lists.proofs.Stores.{stored, stored-more}
-use Rattle.text_lines.specs.Put.{Put}
+use Rattle.text_digits.specs.Put.{Put}
 
 pub put-then : {l m n : List ℕ} {at p q : ℕ} {xs ys : List ℕ} → Put l at xs m p → Put m p ys n q → Put l at (xs ++ ys) n q
 put-then {l} {m} {n} {at} {p} {q} {xs} {ys} a b =

@@ -1,11 +1,11 @@
--- `text_lines::put_eight` meets its contract: four digits, then four digits. Assumes nothing.
+-- `text_digits::put_eight` meets its contract: four digits, then four digits. Assumes nothing.
 use mathlib.Core.Path.{_≡_}
 use Prim.Native.Nat.{_-_, _*_, _/_, _%_}
 use native.Mathlib.Omega.{arith}
-use Rattle.text_lines.proofs.Puts.{put-then}
+use Rattle.text_digits.proofs.Puts.{put-then}
 use borrow.Author.Needs.{needs}
-use Rattle.text_lines.proofs.put_eight.Statement.{statement}
-use Rattle.text_lines.proofs.put_eight.Tie as tie
+use Rattle.text_digits.proofs.put_eight.Statement.{statement}
+use Rattle.text_digits.proofs.put_eight.Tie as tie
 
 put-four-requires : tie.Need-put-four-requires
 put-four-requires c κs = search needs

@@ -1,11 +1,11 @@
--- `text_lines::put_four` meets its contract: two digits, then two digits. Assumes nothing.
+-- `text_digits::put_four` meets its contract: two digits, then two digits. Assumes nothing.
 use mathlib.Core.Path.{_≡_}
 use Prim.Native.Nat.{_-_, _*_, _/_, _%_}
 use native.Mathlib.Omega.{arith}
-use Rattle.text_lines.proofs.Puts.{put-then}
+use Rattle.text_digits.proofs.Puts.{put-then}
 use borrow.Author.Needs.{needs}
-use Rattle.text_lines.proofs.put_four.Statement.{statement}
-use Rattle.text_lines.proofs.put_four.Tie as tie
+use Rattle.text_digits.proofs.put_four.Statement.{statement}
+use Rattle.text_digits.proofs.put_four.Tie as tie
 
 put-two-requires : tie.Need-put-two-requires
 put-two-requires c κs = search needs
