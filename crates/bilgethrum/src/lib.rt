@@ -1,4 +1,6 @@
 // Every public call for C hosts, as include/bilgethrum.h declares it. A host's line is a room in which its scheduler is kept.
+#![tactic(auto)]
+
 ghost use Rattle.std.specs.Prelude.{◌≡◌};
 ghost use Rattle.payload.specs.Part.{view_refusal};
 ghost use Rattle.payload.specs.View.{area_of};

@@ -1,5 +1,7 @@
 // What a C host hands over and is handed, as structs of numbers, to and from the types of the calls. The functions serve the crate `bilgethrum`
 // only.
+#![tactic(auto)]
+
 ghost use Rattle.std.specs.Prelude.{◌≡◌, min};
 ghost use Rattle.scheduler_answers.specs.Values.{opening_number};
 ghost use Rattle.bilgethrum_values.specs.Host.{settings_from, packet_from, host_settings, host_packet, host_arrival, host_decision, host_tallies, host_reading, host_writing, host_marker_opening, host_marking, undecided};
@@ -13,14 +15,14 @@ use scheduler_state::Tallies;
 use units::{Bytes, Instant, Settings, Ticks};
 
 #[repr(C)]
-#[derive(Drop)]
+#[derive(Clone, Copy)]
 pub struct HostSettings {
     pub alpha: u64,
     pub ticks_per_byte: u32,
 }
 
 #[repr(C)]
-#[derive(Drop)]
+#[derive(Clone, Copy)]
 pub struct HostPacket {
     pub arrival: u64,
     pub length: u32,
@@ -29,7 +31,7 @@ pub struct HostPacket {
 }
 
 #[repr(C)]
-#[derive(Drop)]
+#[derive(Clone, Copy)]
 pub struct HostArrival {
     pub refusal: u32,
     pub number: u32,
@@ -37,7 +39,7 @@ pub struct HostArrival {
 }
 
 #[repr(C)]
-#[derive(Drop)]
+#[derive(Clone, Copy)]
 pub struct HostDecision {
     pub refusal: u32,
     pub number: u32,
@@ -48,7 +50,7 @@ pub struct HostDecision {
 }
 
 #[repr(C)]
-#[derive(Drop)]
+#[derive(Clone, Copy)]
 pub struct HostTallies {
     pub unmarked_admitted: u32,
     pub marked_admitted: u32,
@@ -58,7 +60,7 @@ pub struct HostTallies {
 }
 
 #[repr(C)]
-#[derive(Drop)]
+#[derive(Clone, Copy)]
 pub struct HostReading {
     pub refusal: u32,
     pub block: u32,
@@ -68,14 +70,14 @@ pub struct HostReading {
 }
 
 #[repr(C)]
-#[derive(Drop)]
+#[derive(Clone, Copy)]
 pub struct HostWriting {
     pub refusal: u32,
     pub bytes: usize,
 }
 
 #[repr(C)]
-#[derive(Drop)]
+#[derive(Clone, Copy)]
 pub struct HostMarking {
     pub refusal: u32,
     pub marked: u32,

@@ -1,4 +1,6 @@
 // RFC 1071's own examples; each refusal of the reader and the writer reached, with its block, its record and the lent memory shown; a trace that fills 64 blocks.
+#![tactic(auto)]
+
 use block_check::{check_of, sum};
 use block_image::Reading;
 use block_layout::seal;

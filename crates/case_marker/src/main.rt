@@ -1,5 +1,7 @@
 // Runs the marker's cases on both sides of each line through its two calls, and prints each answer: O and the number of an opening, U unmarked,
 // M marked, R and the number of a refusal.
+#![tactic(auto)]
+
 ghost use Rattle.std.specs.Prelude.{◌≡◌, length};
 
 use marker::{Answer, Flow, Flows, Opening};

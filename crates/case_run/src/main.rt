@@ -1,4 +1,6 @@
 // Runs each trace file that its arguments name, and prints the name and the text: document 01's cases and refused images.
+#![tactic(auto)]
+
 use libc::STDOUT_FILENO;
 
 const IMAGE_MOST: usize = 33280;

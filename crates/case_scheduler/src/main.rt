@@ -1,5 +1,7 @@
 // Runs document 01's printed case, the 65th waiting packet of each marking and the last instant through the three calls, and prints each answer
 // as the trace program does.
+#![tactic(auto)]
+
 ghost use Rattle.std.specs.Prelude.{◌≡◌, ◌+◌, ◌-◌, ◌≤◌, ◌<◌, length};
 ghost use Rattle.scheduler.specs.Machine.{FromOpening};
 

@@ -1,4 +1,6 @@
 // How a Rattle host uses the marker: it opens one, lends it words, and asks about each packet of a camera burst.
+#![tactic(auto)]
+
 use marker::{Answer, Flow, Flows, Opening};
 use units::{Bytes, Instant};
 

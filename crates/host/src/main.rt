@@ -1,4 +1,6 @@
 // How a Rattle host uses the scheduler: it opens one, lends it a waiting room, hands in a packet and asks what to send.
+#![tactic(auto)]
+
 use scheduler::{Decision, Outcome, Packet};
 use units::{Bytes, Instant, Marking, Settings, Ticks};
 

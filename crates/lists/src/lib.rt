@@ -1,1 +1,3 @@
 // Lists made piece by piece, as loops make them: definitions in specs/, laws in proofs/.
+#![tactic(auto)]
+

@@ -1,5 +1,7 @@
 // The marker at the door: `open` and `mark`, over words that the caller lends. A packet is left unmarked exactly if its flow's bucket holds its
 // whole length. It passes on the types of an opening's flows.
+#![tactic(auto)]
+
 ghost use Rattle.std.specs.Prelude.{◌≡◌, ◌≤◌, ◌<◌};
 ghost use Rattle.refusals.specs.First.{first_refusal, number_of};
 ghost use Rattle.units.specs.Limits.{length_most, instant_most};
@@ -45,14 +47,14 @@ pub fn empty() -> Marker
 }
 
 // The answer to an opening. A refusal bears the request's number, here and below.
-#[derive(Drop)]
+#[derive(Clone, Copy)]
 pub enum Opening {
     Ready,
     Refused(u8),
 }
 
 // The answer to a packet.
-#[derive(Drop)]
+#[derive(Clone, Copy)]
 pub enum Answer {
     Unmarked,
     Marked,

@@ -1,4 +1,6 @@
 // How a bucket fills, with no number wider than 64 bits though rate times span reaches 10^22. The function serves the crate `marker` only.
+#![tactic(auto)]
+
 ghost use Rattle.std.specs.Prelude.{◌≡◌};
 ghost use Rattle.marker_rules.specs.Bucket.{filled_to};
 ghost use Rattle.marker_bucket.specs.Fillable.{Fillable};

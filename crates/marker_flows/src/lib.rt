@@ -1,4 +1,6 @@
 // The flows at the door: a rate and a depth for each, their limits, and the refusals of an opening.
+#![tactic(auto)]
+
 ghost use Rattle.std.specs.Prelude.{◌≡◌, ◌≤◌};
 ghost use Rattle.refusals.specs.First.{first_refusal, number_of};
 ghost use Rattle.units.specs.Limits.{in_range};
@@ -13,7 +15,7 @@ pub const DEPTH_MOST: u32 = 65_535;
 
 // What fills a flow's bucket, in bytes per 1,000,000 ticks, and what it holds at most, in bytes. A C host hands both structs over as they are.
 #[repr(C)]
-#[derive(Drop)]
+#[derive(Clone, Copy)]
 pub struct Flow {
     pub rate: u32,
     pub depth: u32,
@@ -21,7 +23,7 @@ pub struct Flow {
 
 // What an opening asks for: the first `count` of these flows. One array, so that there is a depth for every rate.
 #[repr(C)]
-#[derive(Drop)]
+#[derive(Clone, Copy)]
 pub struct Flows {
     pub count: u32,
     pub each: [Flow; FLOWS_MOST],

@@ -1,4 +1,6 @@
 // The payload view: `view` and `view_refusal` are public calls; the marking names the area where a payload lies.
+#![tactic(auto)]
+
 ghost use Rattle.std.specs.Prelude.{◌≡◌};
 ghost use Rattle.payload.specs.Part.{view_refusal, Viewed};
 ghost use Rattle.payload.specs.View.{area_of};

@@ -1,4 +1,6 @@
 // The whole run on bytes, image in and text out: `whole_run` is a public call.
+#![tactic(auto)]
+
 ghost use Rattle.std.specs.Prelude.{◌≡◌, ◌*◌, ◌/◌, ◌^◌, ◌≤◌, ◌<◌, pos, length};
 ghost use Rattle.run_events.specs.Trace.{trace_text};
 ghost use Rattle.run.specs.Text.{refused_text, text_of};

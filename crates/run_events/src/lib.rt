@@ -1,4 +1,6 @@
 // Events played on the scheduler, and the text of a trace told to a lent area; for the crate `run`. The waiting room is in its frame.
+#![tactic(auto)]
+
 ghost use Rattle.std.specs.Prelude.{◌≡◌, ◌+◌, ◌*◌, ◌/◌, ◌^◌, ◌≤◌, ◌<◌, min, length};
 ghost use Rattle.rules.specs.Step.{advance};
 ghost use Rattle.scheduler.specs.Machine.{FromOpening};
@@ -21,14 +23,14 @@ use units::{Instant, Marking, Settings};
 const BLOCK_EVENTS: usize = 31;
 
 // The place behind a line of the text, and the scheduler from there on.
-#[derive(Drop)]
+#[derive(Clone, Copy)]
 pub struct Played {
     pub next: usize,
     pub scheduler: Scheduler,
 }
 
 // An event as the call that it is.
-#[derive(Drop)]
+#[derive(Clone, Copy)]
 pub enum Coming {
     Arrival(Packet),
     Advance(Instant),
@@ -111,7 +113,7 @@ fn play(
 }
 
 // The place behind a text, and the scheduler after its events.
-#[derive(Drop)]
+#[derive(Clone, Copy)]
 pub struct Told {
     pub next: usize,
     pub scheduler: Scheduler,

@@ -1,5 +1,7 @@
 // The scheduler for one line: `open`, `arrive`, `advance`, over a scheduler by value and a waiting room that the caller lends. It passes on the types of
 // its answers and of the room.
+#![tactic(auto)]
+
 ghost use Rattle.scheduler.specs.Machine.{FromOpening};
 ghost use Rattle.scheduler.specs.Promises.{Opens, Arrives, Advances};
 

@@ -1,4 +1,6 @@
 // An admission: a packet that no test refuses is put into the room, counted and answered. The functions serve the crate `scheduler` only.
+#![tactic(auto)]
+
 ghost use Rattle.std.specs.Prelude.{◌≡◌, ◌≤◌, ◌<◌};
 ghost use Rattle.units.specs.Limits.{admissions_most};
 ghost use Rattle.scheduler_state.specs.Bounds.{times_most, Small};

@@ -1,5 +1,7 @@
 // The decision that is due: which packet starts, how many are dropped, and what that makes of the scheduler's numbers. The functions serve the
 // crate `scheduler` only.
+#![tactic(auto)]
+
 ghost use Rattle.std.specs.Prelude.{◌≡◌, ◌+◌, ◌≤◌, ◌<◌};
 ghost use Rattle.units.specs.Limits.{alpha_most, instant_most, admissions_most};
 ghost use Rattle.scheduler_state.specs.Bounds.{times_most, Small};

@@ -1,4 +1,6 @@
 // The scheduler in words of the room, for a host that holds one array for both. The functions serve the crate `bilgethrum` only.
+#![tactic(auto)]
+
 ghost use Rattle.std.specs.Prelude.{◌≡◌, ◌%◌};
 ghost use Rattle.room.specs.Room.{with_kept};
 ghost use Rattle.scheduler_kept.specs.Words.{settings_words, line_words, extra_words, tally_words, scheduler_words, settings_in, line_in, extra_in, tallies_in, scheduler_in};

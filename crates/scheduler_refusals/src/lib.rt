@@ -1,5 +1,7 @@
 // Whether a call is accepted: the due instant, and the refusal numbers of an arrival and of an advance. The functions serve the crate
 // `scheduler` only.
+#![tactic(auto)]
+
 ghost use Rattle.std.specs.Prelude.{◌≡◌, max};
 ghost use Rattle.refusals.specs.First.{first_refusal, number_of};
 ghost use Rattle.rules.specs.Terms.{terms_of};

@@ -1,4 +1,6 @@
 // The scheduler's own numbers: the counts that follow from its tallies, and the extra delays. The functions serve the crates above only.
+#![tactic(auto)]
+
 ghost use Rattle.std.specs.Prelude.{◌≡◌, ◌+◌, ◌-◌, ◌≤◌, min};
 ghost use Rattle.units.specs.Limits.{alpha_most, instant_most};
 ghost use Rattle.scheduler_state.specs.Counts.{admissions_of, gone_of, waiting_of, waits_of, Counted};
@@ -9,7 +11,7 @@ ghost use Rattle.scheduler_state.specs.Delays.{follows_of, own_of, fits_of};
 use units::{Instant, Marking, Settings, Ticks};
 
 // When the line falls free, and the marking of what started last.
-#[derive(Drop)]
+#[derive(Clone, Copy)]
 pub struct Line {
     pub free: Instant,
     pub last: Marking,
@@ -17,7 +19,7 @@ pub struct Line {
 
 // All waiting unmarked transmission times; the extra delay of the first and of the last unmarked packet, waiting or, where none waits, as it
 // started.
-#[derive(Drop)]
+#[derive(Clone, Copy)]
 pub struct Extra {
     pub sum: Ticks,
     pub first: Ticks,
@@ -25,14 +27,14 @@ pub struct Extra {
 }
 
 // A count for each marking.
-#[derive(Drop)]
+#[derive(Clone, Copy)]
 pub struct Each {
     pub unmarked: u32,
     pub marked: u32,
 }
 
 // The five tallies, from which every other count follows.
-#[derive(Drop)]
+#[derive(Clone, Copy)]
 pub struct Tallies {
     pub admitted: Each,
     pub started: Each,
@@ -40,7 +42,7 @@ pub struct Tallies {
 }
 
 // The scheduler, small and by value; the packets stand in the room.
-#[derive(Drop)]
+#[derive(Clone, Copy)]
 pub struct Scheduler {
     pub settings: Settings,
     pub clock: Instant,

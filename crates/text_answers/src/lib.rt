@@ -1,4 +1,6 @@
 // Answers as lines: the letter and the numbers that document 01 prints for each, told to a lent area; pub functions serve the whole run.
+#![tactic(auto)]
+
 ghost use Rattle.std.specs.Prelude.{[], ◌∷◌, ◌^◌, ◌<◌};
 ghost use Rattle.text.specs.Text.{values_text};
 ghost use Rattle.text_lines.specs.Told.{Told};

@@ -1,4 +1,6 @@
 // Numbers in decimal and words in hexadecimal, put into a lent area that has room for them; pub functions serve the lines.
+#![tactic(auto)]
+
 ghost use Rattle.std.specs.Prelude.{◌≡◌, [], ◌∷◌, ◌+◌, ◌^◌, ◌≤◌, ◌<◌, length};
 ghost use Rattle.text.specs.Text.{decimal, hex_digit, field_text, word_text};
 ghost use Rattle.text_digits.specs.Groups.{two, four, eight};

@@ -1,4 +1,6 @@
 // Lines of a letter, numbers and words, told to a lent area; pub functions serve the crates above.
+#![tactic(auto)]
+
 ghost use Rattle.std.specs.Prelude.{[], ◌∷◌, ◌^◌, ◌<◌};
 ghost use Rattle.text.specs.Text.{field_text, word_text, line_text, worded_text};
 ghost use Rattle.text_lines.specs.Told.{Told};

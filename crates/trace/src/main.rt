@@ -1,4 +1,6 @@
 // The trace program: reads an image from standard input and prints its text.
+#![tactic(auto)]
+
 use libc::{STDERR_FILENO, STDIN_FILENO, STDOUT_FILENO};
 
 // One byte more than the largest image is enough to know that an image is too long.
