@@ -26,7 +26,7 @@ use Rattle.rules.proofs.Served.{chosen-split, admissions-joined, admissions-deci
 
 module _ (σ : Terms) where
   -- No more packets are admitted than there are calls.
-  one-call : {c : Call} {o : Outcome} (s z : Line) (n : ℕ) → Move σ s c o → admissions z ≤ admissions o.line + n
+  one-call : {c : Call} (s z : Line) {o : Outcome} (n : ℕ) → Move σ s c o → admissions z ≤ admissions o.line + n
       → admissions z ≤ admissions s + suc n
   one-call s z n (refuses k) h = omega arith
   one-call s z n (admits {μ = μ} {len = len} {place = place} {t = t} a) h = omega (arith, admissions-joined σ s (newcomer σ s μ len place t) t)
@@ -51,7 +51,7 @@ module _ (σ : Terms) where
   new_number s Unmarked len place t = refl
   new_number s Marked len place t = refl
 
-  numbered : {c : Call} {o : Outcome} (s : Line) → Each (NumberMost (admissions s)) s.queue → Move σ s c o
+  numbered : {c : Call} (s : Line) {o : Outcome} → Each (NumberMost (admissions s)) s.queue → Move σ s c o
       → Each (NumberMost (admissions o.line)) o.line.queue
   numbered s h (refuses k) = h
   numbered s h (admits {μ = μ} {len = len} {place = place} {t = t} a) =
@@ -113,7 +113,7 @@ module _ (σ : Terms) where
         length-append c.dropped (marked_of (c.what ∷ c.rest)),
       )
 
-  bounded : {c : Call} {o : Outcome} (n e : ℕ) (s : Line) → admissions s ≤ n → Each (NumberMost (admissions s)) s.queue
+  bounded : {c : Call} (n e : ℕ) (s : Line) {o : Outcome} → admissions s ≤ n → Each (NumberMost (admissions s)) s.queue
       → length (marked_of s.queue) ≤ σ.room → Waits σ e s → ((k : ℕ) → o.answer ≡ refused k → k ≤ 7) → Move σ s c o
       → AnswerBounds σ (suc n) o.answer
   bounded n e s few h room w r (refuses k) = r k refl
