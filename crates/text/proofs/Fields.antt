@@ -44,6 +44,9 @@ fields_most (k ∷ most) = 1 + k + fields_most most
 
 fields_within : (most vs : List ℕ) → Within most vs → length (fields_text vs) ≤ fields_most most
 fields_within [] [] h = omega arith
+fields_within [] (v ∷ vs) h = elim h [ ]
+fields_within (zero ∷ most) vs h = elim h [ ]
+fields_within (suc k ∷ most) [] h = elim h [ ]
 fields_within (suc k ∷ most) (v ∷ vs) h =
     omega (arith, fields_within most vs h.1, decimal-within k v h.0, length-append (field_text v) (fields_text vs))
 

@@ -66,7 +66,9 @@ tail-same h = cc
 
 same_digits : (d e r s : List ℕ) → Digits d → Digits e → Stops r → Stops s → d ++ r ≡ e ++ s → (d ≡ e) × (r ≡ s)
 same_digits [] [] r s h k a b i = (refl, i)
+same_digits [] (y ∷ e) [] s h k a b i = elim a [ ]
 same_digits [] (y ∷ e) (x ∷ r) s h k a b i = absurd (omega (arith, head-same i))
+same_digits (x ∷ d) [] r [] h k a b i = elim b [ ]
 same_digits (x ∷ d) [] r (y ∷ s) h k a b i = absurd (omega (arith, head-same i))
 same_digits (x ∷ d) (y ∷ e) r s h k a b i =
     let t = same_digits d e r s h.1 k.1 a b (tail-same i) in

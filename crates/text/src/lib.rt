@@ -1,3 +1,2 @@
 // Numbers and lines as text: definitions in specs/, laws in proofs/.
 #![tactic(auto)]
-
