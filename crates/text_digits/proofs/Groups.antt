@@ -4,7 +4,7 @@ use mathlib.Core.List.{[], ◌∷◌, ◌++◌, append_assoc}
 use Prim.Native.Nat.{ℕ, ◌+◌, ◌/◌, ◌%◌, ◌^◌, ◌≤◌, ◌<◌}
 use native.Mathlib.Omega.{arith}
 use lib.ListN.{length, length-append}
-use Rattle.text.specs.Text.{digit, decimal, hex_digit, hex_digits_in, hexadecimal}
+use Rattle.text.specs.Text.{decimal, hex_digit, hex_digits_in, hexadecimal}
 use Rattle.text.proofs.Digits.{one-digit, last-digit}
 use Rattle.text_digits.specs.Groups.{two, four, eight}
 
