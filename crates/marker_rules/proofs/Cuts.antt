@@ -1,7 +1,7 @@
 -- A stretch of a flow's own packets is one of the calls, from its first packet to its last: so the bound over calls is that over own packets. Assumes nothing.
 use mathlib.Core.Path.{◌≡◌, refl, sym, ap, ◌∙◌}
 use mathlib.Core.List.{List, [], ◌∷◌, ◌++◌, append-nil, nil≢cons, head-eq_of_cons-eq, tail-eq_of_cons-eq}
-use Prim.Native.Nat.{ℕ, ◌+◌, ◌*◌, ◌-◌}
+use Prim.Native.Nat.{ℕ, ◌*◌}
 use native.Mathlib.Omega.{arith}
 use Rattle.marker_rules.specs.Told.{Told, add_instant, instants, last_of, span_of, Passed, add_own, of_flow, unmarked_bytes, instant_of, instants_of}
 use Rattle.marker_rules.specs.Stretches.{BoundIsOwn}

@@ -7,7 +7,7 @@ use Prim.Native.Nat.{ℕ, zero, suc, ◌≤◌, ◌<◌}
 use native.Mathlib.Omega.{arith}
 use lib.Dec.{leb}
 use lib.ListN.{length, get_or}
-use borrow.Author.Tests.{leb-true, not_false, le-leb}
+use borrow.Author.Tests.{leb-true, not-false, le-leb}
 use Rattle.refusals.specs.First.{first_refusal}
 use Rattle.refusals.proofs.Laws.{passes, both, some_number, Numbered}
 use Rattle.units.specs.Limits.{in_range}
@@ -21,7 +21,7 @@ use Rattle.marker_rules.specs.Opened.{InRange, OpensInRange, OpensSound}
 -- A number that is not out of range is in it.
 within : (most x : ℕ) → not (in_range 1 most x) ≡ false → (1 ≤ x) × (x ≤ most)
 within most x e =
-    let k = both (leb 1 x) (leb x most) (not_false (in_range 1 most x) e) in
+    let k = both (leb 1 x) (leb x most) (not-false (in_range 1 most x) e) in
     (leb-true 1 x k.0, leb-true x most k.1)
 
 inside : (most x : ℕ) → 1 ≤ x → x ≤ most → not (in_range 1 most x) ≡ false

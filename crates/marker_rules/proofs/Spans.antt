@@ -2,7 +2,7 @@
 use mathlib.Core.Path.{◌≡◌, refl, sym}
 use mathlib.Core.Bool.{Bool, true, false}
 use mathlib.Core.List.{List, [], ◌∷◌, ◌++◌}
-use Prim.Native.Nat.{ℕ, ◌+◌, ◌-◌, ◌≤◌}
+use Prim.Native.Nat.{ℕ, ◌-◌, ◌≤◌}
 use native.Mathlib.Nat.{mul-le-mul_left}
 use native.Mathlib.Omega.{arith}
 use Rattle.marker_flows.specs.declared.Flow.{Flow}
@@ -99,7 +99,7 @@ module _ (σ : Terms) where
   answered true t c = refl
   answered false t c = refl
 
-  clock_then_lem : {o : Outcome} (s : Marker) (c : Call) → Move σ s c o
+  clock_then_lem : (s : Marker) (c : Call) {o : Outcome} → Move σ s c o
       → (s.clock ≤ clock_then s.clock c o.answer) × (o.marker.clock ≡ clock_then s.clock c o.answer)
   clock_then_lem s c (refuses n) = (omega arith, refl)
   clock_then_lem s c (accepts a) =

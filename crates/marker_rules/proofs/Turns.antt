@@ -76,14 +76,14 @@ module _ (σ : Terms) where
         (λ ps. own-adds c (holds (flow_at σ c.flow) (bucket_at s c.flow) c.len c.at) e ps
         ∙ ap (λ (g : ℕ). passed c (holds (flow_at σ g) (bucket_at s g) c.len c.at) ∷ ps) same)
 
-    turn_of : {o : Outcome} (s : Marker) (c : Call) → Lasting s → Move s c o → Turn s o.marker c o.answer
+    turn_of : (s : Marker) (c : Call) {o : Outcome} → Lasting s → Move s c o → Turn s o.marker c o.answer
     turn_of s c k (refuses n) = aside (omega arith) refl (λ ps. refl)
     turn_of s c k (accepts a) = accepted-turn s c _ refl k a
 
     pub turn : (s : Marker) (c : Call) → Lasting s → Turn s (step σ s c).marker c (step σ s c).answer
     turn s c k = turn_of s c k (move s c)
 
-    counted_step : {o : Outcome} (s : Marker) (c : Call) → Move s c o → length o.marker.buckets ≡ length s.buckets
+    counted_step : (s : Marker) (c : Call) {o : Outcome} → Move s c o → length o.marker.buckets ≡ length s.buckets
     counted_step s c (refuses n) = refl
     counted_step s c (accepts a) = length-set s.buckets c.flow _
 
