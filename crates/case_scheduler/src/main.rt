@@ -7,16 +7,18 @@ ghost use Rattle.scheduler.specs.Machine.{FromOpening};
 
 use room::{Packet, Room};
 use scheduler_state::Scheduler;
+use std::io;
 use units::{Bytes, Instant, Marking, Settings, Ticks};
 
 // No line is longer.
 const LINE_MOST: usize = 107;
 
 // Prints a line that was told to an area and ends there; one that did not fit is left out.
-fn print(line: &[u8], end: usize) {
+fn print(rt: &impl Print, line: &[u8], end: usize) -> io::Result<()> {
     if end <= line.len() {
-        io::write_all(1, &line[..end]);
+        rt.write_all(&line[..end])?;
     }
+    Ok(())
 }
 
 // Kind 1 is an unmarked arrival, any other but 3 a marked one.
@@ -28,17 +30,24 @@ fn marking_of(kind: u8) -> Marking {
 }
 
 // One call, and its line. Kind 3 is an advance.
-fn call(scheduler: Scheduler, kind: u8, length: u32, at: u64, room: &mut Room) -> Scheduler
-    requires { FromOpening scheduler room.old }
-    ensures { FromOpening result room.new }
+fn call(
+    rt: &impl Print,
+    scheduler: &mut Scheduler,
+    kind: u8,
+    length: u32,
+    at: u64,
+    room: &mut Room,
+) -> io::Result<()>
+    requires { FromOpening scheduler.old room.old }
+    ensures { FromOpening scheduler.new room.new }
 {
     let mut line = [0u8; LINE_MOST];
     if kind == 3 {
-        let advanced = scheduler::advance(scheduler, Instant(at), room);
+        let advanced = scheduler::advance(*scheduler, Instant(at), room);
+        *scheduler = advanced.scheduler;
         let answer = advanced.answer;
         let end = text_answers::tell_advance(&mut line, 0, answer);
-        print(&line, end);
-        return advanced.scheduler;
+        return print(rt, &line, end);
     }
     let packet = Packet {
         marking: marking_of(kind),
@@ -46,11 +55,11 @@ fn call(scheduler: Scheduler, kind: u8, length: u32, at: u64, room: &mut Room) -
         place: 0,
         arrival: Instant(at),
     };
-    let arrived = scheduler::arrive(scheduler, packet, room);
+    let arrived = scheduler::arrive(*scheduler, packet, room);
+    *scheduler = arrived.scheduler;
     let answer = arrived.answer;
     let end = text_answers::tell_admission(&mut line, 0, answer);
-    print(&line, end);
-    arrived.scheduler
+    print(rt, &line, end)
 }
 
 // The row of the k-th call, where the first row is called so many times more.
@@ -61,7 +70,13 @@ fn row_of(k: usize, more: usize) -> usize
 }
 
 // The calls of a table on a fresh scheduler, alpha 100 and 1 tick per byte, the first so many times more; and the tally line.
-fn play(more: usize, kinds: &[u8], spans: &[u32], instants: &[u64])
+fn play(
+    rt: &impl Print,
+    more: usize,
+    kinds: &[u8],
+    spans: &[u32],
+    instants: &[u64],
+) -> io::Result<()>
     requires { (0 < length kinds.now) × (length spans.now ≡ length kinds.now) × (length instants.now ≡ length kinds.now) × (more + length kinds.now ≤ 100) }
 {
     let settings = Settings {
@@ -75,13 +90,13 @@ fn play(more: usize, kinds: &[u8], spans: &[u32], instants: &[u64])
     let mut k: usize = 0;
     while k < calls {
         let i = row_of(k, more);
-        next = call(next, kinds[i], spans[i], instants[i], &mut room);
+        call(rt, &mut next, kinds[i], spans[i], instants[i], &mut room)?;
         k += 1;
     }
     let mut line = [0u8; LINE_MOST];
     let tallies = next.tallies;
     let end = text_answers::tell_tallies(&mut line, 0, tallies);
-    print(&line, end);
+    print(rt, &line, end)
 }
 
 // u50@0, m60@0, u40@0, a0, a50, m45@60, u30@70, u10@125, a110, a150, m101@160, u20@160, a170, m30@165.
@@ -112,9 +127,9 @@ const LATE_INSTANTS: [u64; 4] = [
     1_000_000_000_000_000,
 ];
 
-fn main() {
-    play(0, &CASE_KINDS, &CASE_LENGTHS, &CASE_INSTANTS);
-    play(64, &FULL_UNMARKED, &FULL_LENGTHS, &FULL_INSTANTS);
-    play(64, &FULL_MARKED, &FULL_LENGTHS, &FULL_INSTANTS);
-    play(0, &LATE_KINDS, &LATE_LENGTHS, &LATE_INSTANTS);
+fn main(rt: HostRuntime) -> io::Result<()> {
+    play(&rt, 0, &CASE_KINDS, &CASE_LENGTHS, &CASE_INSTANTS)?;
+    play(&rt, 64, &FULL_UNMARKED, &FULL_LENGTHS, &FULL_INSTANTS)?;
+    play(&rt, 64, &FULL_MARKED, &FULL_LENGTHS, &FULL_INSTANTS)?;
+    play(&rt, 0, &LATE_KINDS, &LATE_LENGTHS, &LATE_INSTANTS)
 }

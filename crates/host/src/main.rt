@@ -2,24 +2,21 @@
 #![tactic(auto)]
 
 use scheduler::{Decision, Outcome, Packet};
+use std::io;
 use units::{Bytes, Instant, Marking, Settings, Ticks};
 
 // Says which packet goes onto the line.
-fn send(answer: Outcome) {
+fn send(rt: &impl Print, answer: Outcome) -> io::Result<()> {
     let Outcome::Decided(decision) = answer else {
-        return;
+        return Ok(());
     };
     let Decision::Started(start) = decision else {
-        return;
+        return Ok(());
     };
-    io::write_all(1, b"packet ");
-    io::print_decimal(1, start.number as u64);
-    io::write_all(1, b" starts at ");
-    io::print_decimal(1, start.at.0);
-    io::write_all(1, b"\n");
+    println!(rt; "packet {} starts at {}", start.number, start.at.0)
 }
 
-fn main() {
+fn main(rt: HostRuntime) -> io::Result<()> {
     let settings = Settings {
         alpha: Ticks(100),
         ticks_per_byte: 1,
@@ -34,6 +31,5 @@ fn main() {
     };
     let arrived = scheduler::arrive(opened.scheduler, packet, &mut room);
     let advanced = scheduler::advance(arrived.scheduler, Instant(9), &room);
-    let answer = advanced.answer;
-    send(answer);
+    send(&rt, advanced.answer)
 }

@@ -62,6 +62,7 @@ pub enum Answer {
 }
 
 // A flow's words, with a full bucket.
+#[tactic(auto, unfolding(crate::specs::Calls::laid_one))]
 fn lay_one(f: usize, flow: Flow, marker: &mut Marker)
     requires { f < flows_most }
     ensures { marker.new ≡ laid_one marker.old f flow }
@@ -140,6 +141,7 @@ fn level_at(f: usize, at: Instant, marker: &Marker) -> u64
 }
 
 // A packet was accepted: its flow's bucket was looked at, and holds so much since.
+#[tactic(auto, unfolding(crate::specs::Words::holding))]
 fn hold(f: usize, held: u64, at: Instant, marker: &mut Marker)
     requires { f < flows_most }
     ensures { marker.new ≡ holding marker.old f held at.0 }

@@ -1,12 +1,12 @@
 -- The code's answers are the rules', so what holds of these holds of them. Assumes nothing.
 use mathlib.Core.Path.{◌≡◌, subst⁻¹}
 use mathlib.Core.List.{List}
-use Prim.Native.Nat.{ℕ, ◌-◌}
+use Prim.Native.Nat.{ℕ}
 use Rattle.marker_flows.specs.declared.Flow.{Flow}
 use Rattle.marker_rules.specs.Terms.{flow_at}
 use Rattle.marker_rules.specs.Bucket.{Bucket}
 use Rattle.marker_rules.specs.Step.{bucket_at, fresh, after}
-use Rattle.marker_rules.specs.Told.{Told, told}
+use Rattle.marker_rules.specs.Told.{Told}
 use Rattle.marker_rules.specs.Promises.{Keeps}
 use Rattle.marker_rules.proofs.Apart.{same-answers}
 use Rattle.marker_rules.proofs.Content.{nothing_lost_lem}

@@ -4,7 +4,6 @@ use mathlib.Core.Bool.{Bool, true, false}
 use mathlib.Core.List.{List, [], ◌∷◌}
 use Prim.Native.Nat.{ℕ}
 use lib.Dec.{eqb}
-use Rattle.refusals.specs.First.{first_refusal, number_of}
 use Rattle.units.specs.declared.Instant.{Instant}
 use Rattle.units.specs.declared.Marking.TheVariants.{Unmarked, Marked}
 use Rattle.units.specs.declared.Marking.{Marking}

@@ -9,7 +9,7 @@ use Rattle.units.specs.declared.Settings.{Settings}
 use Rattle.rules.specs.Terms.{Terms, terms_of}
 use Rattle.rules.specs.Line as rules
 use Rattle.rules.specs.Line.{unmarked, marked, fresh}
-use Rattle.rules.specs.Step.{Call, arrive, advance, Answer, admitted, started, nothing_due, refused, step, after}
+use Rattle.rules.specs.Step.{Call, advance, Answer, admitted, started, nothing_due, refused, step, after}
 use Rattle.rules.specs.Printed.{line_of, numbers_of}
 use Rattle.rules.specs.Open as asked
 use Rattle.room.specs.declared.Packet.{Packet}
@@ -21,8 +21,8 @@ use Rattle.scheduler_answers.specs.declared.Decision.{Decision}
 use Rattle.scheduler_answers.specs.declared.Outcome.{Outcome}
 use Rattle.scheduler_answers.specs.Values.{admission_values, admission_numbers, advance_values, advance_numbers}
 use Rattle.scheduler.specs.Calls.{open_of, arrive_of, advance_of}
-use Rattle.scheduler.specs.Machine.{made, scheduler_after, room_after, FromOpening, terms_by, line_by}
-use Rattle.scheduler.specs.Represents.{started_packet, Represents}
+use Rattle.scheduler.specs.Machine.{made, FromOpening, terms_by, line_by}
+use Rattle.scheduler.specs.Represents.{Represents}
 use Rattle.scheduler.specs.Steps.{arrival_of, step_by, Steps}
 use Rattle.scheduler.specs.Agreement.{Agrees}
 use Rattle.scheduler.proofs.OneMore.{scheduler-more, room-more}

@@ -25,7 +25,7 @@ use Rattle.scheduler.specs.Represents.{Numbered}
 use Rattle.scheduler.proofs.Follows.{all-faithful}
 use Rattle.scheduler_guarantees.specs.Lines.{Begun, begun_in}
 use Rattle.scheduler_guarantees.specs.Demands.{in_force, scheduler_by, lines_by}
-use Rattle.scheduler_guarantees.specs.Account.{HasStarted, WasDropped, IsWaiting, OneFate, TalliesCount, ClockIsLast}
+use Rattle.scheduler_guarantees.specs.Account.{HasStarted, WasDropped, OneFate, TalliesCount, ClockIsLast}
 use Rattle.scheduler_guarantees.proofs.Told.{begun_of, member_from, member_to}
 use Rattle.scheduler_guarantees.proofs.Onward.{all-ranks, admissions-read, gone-read}
 use Rattle.scheduler_guarantees.proofs.Demanded.{begun-same}
@@ -35,7 +35,7 @@ module _ (σ : Terms) where
   abbrev Count : Unit {0} → Line → List Call → List Answer → Line → Type 0
   Count i s cs rs z = (n : ℕ) → length (admitted_from n cs rs) + admissions s ≡ admissions z
 
-  one : {c : Call} {o : Outcome} (s z : Line) (cs : List Call) (rs : List Answer) → Move σ s c o → Count tt o.line cs rs z
+  one : {c : Call} (s z : Line) {o : Outcome} (cs : List Call) (rs : List Answer) → Move σ s c o → Count tt o.line cs rs z
       → Count tt s (c ∷ cs) (o.answer ∷ rs) z
   one s z cs rs (refuses {c = arrive μ len place t} k) h n = h n
   one s z cs rs (refuses {c = advance t} k) h n = h n
@@ -52,6 +52,7 @@ module _ (σ : Terms) where
 
 -- The numbers of what waits, from rank n.
 above : (n : ℕ) (q : List Waiting) (x : Waiting) → Numbered n q → Memᴰ x q → n < (packet x).number
+above n [] x h m = elim m [ ]
 above n (y ∷ q) x h (Memᴰ.head e) = omega (arith, ap (λ (w : Waiting). (packet w).number) e, h.0)
 above n (y ∷ q) x h (Memᴰ.tail m) = omega (arith, above (suc n) q x h.1 m)
 

@@ -54,6 +54,7 @@ on_time settings lent z cs r x m k e =
 
 -- Among the first p + 1 starts.
 among_first : (n p : ℕ) (xs : List Start) → Among n p xs → Memᴰ n (map number_of (take (suc p) (map begun_of xs)))
+among_first n p [] a = elim a [ ]
 among_first n p (x ∷ xs) (now e) = mathlib.Core.List.Memᴰ.head (sym e)
 among_first n (suc p) (x ∷ xs) (later a) = mathlib.Core.List.Memᴰ.tail (among_first n p xs a)
 

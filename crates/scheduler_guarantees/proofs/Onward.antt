@@ -1,7 +1,7 @@
 -- From any list of calls on, the code follows the rules. Assumes nothing.
 use mathlib.Core.Path.{◌≡◌, refl, sym, ap, subst, ◌∙◌}
 use mathlib.Core.List.{List, [], ◌∷◌, ◌++◌, map}
-use Prim.Native.Nat.{ℕ, ◌+◌, ◌-◌}
+use Prim.Native.Nat.{ℕ, ◌+◌}
 use native.Mathlib.Omega.{arith}
 use lib.ListN.{length}
 use Rattle.units.specs.declared.Settings.{Settings}
@@ -20,7 +20,7 @@ use Rattle.scheduler.specs.Agreement.{Faithful}
 use Rattle.scheduler.proofs.Tests.{ranks}
 use Rattle.scheduler.proofs.Follows.{Follows, FitOn, follows, fit-from, fit-now, all-faithful}
 use Rattle.scheduler_guarantees.specs.Lines.{admissions_in, gone_in}
-use Rattle.scheduler_guarantees.specs.Demands.{in_force, scheduler_by, room_by, lines_by, waiting_in}
+use Rattle.scheduler_guarantees.specs.Demands.{scheduler_by, room_by, lines_by, waiting_in}
 use Rattle.scheduler_guarantees.proofs.Told.{admissions-told, gone-told}
 
 after_more : (σ : Terms) (l : Line) (cs more : List Call) → after σ l (cs ++ more) ≡ after σ (after σ l cs) more

@@ -61,11 +61,13 @@ gone-told (refused n ∷ rs) = omega (arith, gone-told rs)
 module _ {A B : Type 0} (f : A → B) where
   -- What stands in an image comes from somewhere.
   pub member_from : (y : B) (l : List A) → Memᴰ y (map f l) → (x : A) × Memᴰ x l × (y ≡ f x)
+  member_from y [] m = elim m [ ]
   member_from y (x ∷ l) (Memᴰ.head e) = (x, Memᴰ.head refl, e)
   member_from y (x ∷ l) (Memᴰ.tail m) =
       let h = member_from y l m in
       (h.0, Memᴰ.tail h.1, h.2)
 
   pub member_to : (x : A) (l : List A) → Memᴰ x l → Memᴰ (f x) (map f l)
+  member_to x [] m = elim m [ ]
   member_to x (z ∷ l) (Memᴰ.head e) = Memᴰ.head (ap f e)
   member_to x (z ∷ l) (Memᴰ.tail m) = Memᴰ.tail (member_to x l m)
