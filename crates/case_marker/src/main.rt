@@ -5,35 +5,34 @@
 ghost use Rattle.std.specs.Prelude.{◌≡◌, length};
 
 use marker::{Answer, Flow, Flows, Opening};
+use std::io;
 use units::{Bytes, Instant};
 
-fn print_number(letter: &[u8], number: u8) {
-    io::write_all(1, letter);
-    io::print_decimal(1, number as u64);
-    io::write_all(1, b"\n");
-}
-
-fn print_opening(answer: Opening) {
+fn print_opening(rt: &impl Print, answer: Opening) -> io::Result<()> {
     match answer {
-        Opening::Ready => print_number(b"O ", 0),
-        Opening::Refused(number) => print_number(b"O ", number),
+        Opening::Ready => println!(rt; "O 0"),
+        Opening::Refused(number) => println!(rt; "O {number}"),
     }
 }
 
-fn print_answer(answer: Answer) {
+fn print_answer(rt: &impl Print, answer: Answer) -> io::Result<()> {
     match answer {
-        Answer::Unmarked => {
-            io::write_all(1, b"U\n");
-        }
-        Answer::Marked => {
-            io::write_all(1, b"M\n");
-        }
-        Answer::Refused(number) => print_number(b"R ", number),
+        Answer::Unmarked => println!(rt; "U"),
+        Answer::Marked => println!(rt; "M"),
+        Answer::Refused(number) => println!(rt; "R {number}"),
     }
 }
 
 // The packets of a table on a marker with so many of these two flows.
-fn play(count: u32, first: Flow, second: Flow, flows: &[u32], lengths: &[u32], instants: &[u64])
+fn play(
+    rt: &impl Print,
+    count: u32,
+    first: Flow,
+    second: Flow,
+    flows: &[u32],
+    lengths: &[u32],
+    instants: &[u64],
+) -> io::Result<()>
     requires { (length lengths.now ≡ length flows.now) × (length instants.now ≡ length flows.now) }
 {
     let asked = Flows {
@@ -44,7 +43,7 @@ fn play(count: u32, first: Flow, second: Flow, flows: &[u32], lengths: &[u32], i
     };
     let mut marker = marker::empty();
     let opening = marker::open(asked, &mut marker);
-    print_opening(opening);
+    print_opening(rt, opening)?;
     let mut i: usize = 0;
     while i < flows.len() {
         let answer = marker::mark(
@@ -53,9 +52,10 @@ fn play(count: u32, first: Flow, second: Flow, flows: &[u32], lengths: &[u32], i
             Instant(instants[i]),
             &mut marker,
         );
-        print_answer(answer);
+        print_answer(rt, answer)?;
         i += 1;
     }
+    Ok(())
 }
 
 const LATEST: u64 = 1_000_000_000_000_000;
@@ -100,66 +100,79 @@ fn flow(rate: u32, depth: u32) -> Flow {
     Flow { rate, depth }
 }
 
-fn play_least(count: u32, first: Flow, second: Flow) {
+fn play_least(rt: &impl Print, count: u32, first: Flow, second: Flow) -> io::Result<()> {
     play(
+        rt,
         count,
         first,
         second,
         &LEAST_FLOWS,
         &LEAST_LENGTHS,
         &LEAST_INSTANTS,
-    );
+    )
 }
 
-fn play_limits() {
+fn play_limits(rt: &impl Print) -> io::Result<()> {
     let slow = flow(1, 100);
     let most = flow(10_000_000, 65_535);
-    play_least(8, most, most);
-    play_least(0, slow, slow);
-    play_least(9, flow(0, 0), flow(0, 0));
-    play_least(2, flow(1, 0), flow(0, 1));
-    play_least(1, flow(10_000_001, 1), slow);
-    play_least(2, slow, flow(1, 0));
-    play_least(1, flow(1, 65_536), slow);
+    play_least(rt, 8, most, most)?;
+    play_least(rt, 0, slow, slow)?;
+    play_least(rt, 9, flow(0, 0), flow(0, 0))?;
+    play_least(rt, 2, flow(1, 0), flow(0, 1))?;
+    play_least(rt, 1, flow(10_000_001, 1), slow)?;
+    play_least(rt, 2, slow, flow(1, 0))?;
+    play_least(rt, 1, flow(1, 65_536), slow)
 }
 
-fn main() {
+fn main(rt: HostRuntime) -> io::Result<()> {
     let slow = flow(1, 100);
-    play(1, slow, slow, &EXACT_FLOWS, &EXACT_LENGTHS, &EXACT_INSTANTS);
+    play(
+        &rt,
+        1,
+        slow,
+        slow,
+        &EXACT_FLOWS,
+        &EXACT_LENGTHS,
+        &EXACT_INSTANTS,
+    )?;
     let slowest = flow(1, 2_048);
     play(
+        &rt,
         1,
         slowest,
         slowest,
         &SPAN_FLOWS,
         &SPAN_LENGTHS,
         &SPAN_INSTANTS,
-    );
+    )?;
     let fastest = flow(10_000_000, 2_048);
     play(
+        &rt,
         1,
         fastest,
         fastest,
         &SPAN_FLOWS,
         &SPAN_LENGTHS,
         &SPAN_INSTANTS,
-    );
+    )?;
     let least = flow(1, 1);
     play(
+        &rt,
         1,
         least,
         least,
         &DEPTH_FLOWS,
         &DEPTH_LENGTHS,
         &DEPTH_INSTANTS,
-    );
+    )?;
     play(
+        &rt,
         2,
         slow,
         slow,
         &REFUSED_FLOWS,
         &REFUSED_LENGTHS,
         &REFUSED_INSTANTS,
-    );
-    play_limits();
+    )?;
+    play_limits(&rt)
 }

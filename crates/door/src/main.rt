@@ -2,26 +2,19 @@
 #![tactic(auto)]
 
 use marker::{Answer, Flow, Flows, Opening};
+use std::io;
 use units::{Bytes, Instant};
 
 // Says how a packet goes on to the scheduler.
-fn tell(answer: Answer) {
+fn tell(rt: &impl Print, answer: Answer) -> io::Result<()> {
     match answer {
-        Answer::Unmarked => {
-            io::write_all(1, b"unmarked\n");
-        }
-        Answer::Marked => {
-            io::write_all(1, b"marked\n");
-        }
-        Answer::Refused(number) => {
-            io::write_all(1, b"refused with ");
-            io::print_decimal(1, number as u64);
-            io::write_all(1, b"\n");
-        }
+        Answer::Unmarked => println!(rt; "unmarked"),
+        Answer::Marked => println!(rt; "marked"),
+        Answer::Refused(number) => println!(rt; "refused with {number}"),
     }
 }
 
-fn main() {
+fn main(rt: HostRuntime) -> io::Result<()> {
     // A tenth of a byte each tick, and 60 bytes at most.
     let camera = Flow {
         rate: 100_000,
@@ -34,10 +27,10 @@ fn main() {
     let mut marker = marker::empty();
     let opened = marker::open(asked, &mut marker);
     let Opening::Ready = opened else {
-        return;
+        return Ok(());
     };
     // 40 of 60 bytes are taken; 39.9 are there at 199, and 40 at 200.
-    tell(marker::mark(0, Bytes(40), Instant(0), &mut marker));
-    tell(marker::mark(0, Bytes(40), Instant(199), &mut marker));
-    tell(marker::mark(0, Bytes(40), Instant(200), &mut marker));
+    tell(&rt, marker::mark(0, Bytes(40), Instant(0), &mut marker))?;
+    tell(&rt, marker::mark(0, Bytes(40), Instant(199), &mut marker))?;
+    tell(&rt, marker::mark(0, Bytes(40), Instant(200), &mut marker))
 }
