@@ -3,7 +3,7 @@
 # prints one table.
 #
 #     bench/run.sh [ARCHIVE|none [LAYOUTS]]
-# ARCHIVE is the proved archive (default target/staticlib/libbilgethrum.a); with 'none' a copy
+# ARCHIVE is the proved archive (default crates/bilgethrum/out/libbilgethrum.a); with 'none' a copy
 # of the baseline stands in for it, so that the ratios show how far a measurement can be off.
 # LAYOUTS (default 5) is how many programs are linked, whose code lies at different addresses:
 # where a loop lies against lines of the cache can matter more than what is measured.
@@ -17,7 +17,7 @@ layouts=${2:-5}
 parts=target/compare/bench
 rm -rf "$parts"
 mkdir -p "$parts"
-find_archive "${1:-target/staticlib/libbilgethrum.a}"
+find_archive "${1:-crates/bilgethrum/out/libbilgethrum.a}"
 
 # compile NAME WORDS...: makes the object of that name
 compile() {

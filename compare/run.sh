@@ -2,14 +2,14 @@
 # Builds the comparison, tries the tools on the bundled traces, and compares.
 #
 #     compare/run.sh [ARCHIVE|none [IMAGES [SEED]]]
-# ARCHIVE is the proved archive (default target/staticlib/libbilgethrum.a); with 'none' the
+# ARCHIVE is the proved archive (default crates/bilgethrum/out/libbilgethrum.a); with 'none' the
 # second program and the baseline are compared alone.  See compare/toolchain.sh for
 # the variables it heeds.
 set -eu
 cd "$(dirname "$0")/.."
 . compare/toolchain.sh
 
-named=${1:-target/staticlib/libbilgethrum.a}
+named=${1:-crates/bilgethrum/out/libbilgethrum.a}
 [ $# -eq 0 ] || shift
 mkdir -p target/compare
 find_archive "$named"

@@ -60,5 +60,5 @@ find_archive() {
             "$("$CC" -print-prog-name=ar)" rc "$archive" "target/compare/$part.o"
         done
     fi
-    [ -f "$archive" ] || missing "the archive $archive (rt staticlib bilgethrum), or say 'none'"
+    [ -f "$archive" ] || missing "the archive $archive (rt lib in crates/bilgethrum), or say 'none'"
 }

@@ -206,9 +206,9 @@ END {
                 shown[substr(line, RSTART + 1, RLENGTH - 2)] = 1
     }
     while ((getline line < "crates.txt") > 0) {
-        if (line !~ /^[a-z0-9_]+:/)
+        if (line !~ /^[a-z0-9_]+( staticlib)?:/)
             continue
-        sub(/:.*/, "", line)
+        sub(/[ :].*/, "", line)
         crates++
         if (!(line in shown))
             complain("the crate " line " is not in the table or the drawing")

@@ -4,8 +4,9 @@
 #     tools/draw_crates.sh            writes the drawing
 #     tools/draw_crates.sh --check    writes nothing, and fails where README's drawing is not what crates.txt gives
 #
-# In crates.txt a comment "# family: WORDS" opens each family, and a crate comes after those that it builds on. The drawing has the last
-# family on top, so that every arrow points downwards. It leaves out an arrow where another way leads down to the same crate.
+# In crates.txt a comment "# family: WORDS" opens each family, and a crate comes after those that it builds on; a static library has the word
+# staticlib before its colon. The drawing has the last family on top, so that every arrow points downwards. It leaves out an arrow where another
+# way leads down to the same crate.
 set -eu
 cd "$(dirname "$0")/.."
 begin='<!-- crates: drawn from crates.txt by tools/draw_crates.sh -->'
@@ -13,26 +14,27 @@ end='<!-- crates: end -->'
 drawing=$(mktemp) readme=$(mktemp)
 trap 'rm -f "$drawing" "$readme"' EXIT
 
-# crates.txt is read twice: first for the names of all crates, since the prover's own (io, libc) are not drawn.
+# crates.txt is read twice: first for the names of all crates, since a library of the prover's is not drawn.
 LC_ALL=C awk '
 FNR == 1 { pass++ }
 
-pass == 1 && /^[a-z0-9_]+:/ { sub(/:.*/, ""); is_crate[$0] = 1; next }
+pass == 1 && /^[a-z0-9_]+( staticlib)?:/ { sub(/[ :].*/, ""); is_crate[$0] = 1; next }
 
 pass == 1 { next }
 
 /^# family: / { family = substr($0, 11) }
 
-/^[a-z0-9_]+:/ {
-    crate = $1
-    sub(/:/, "", crate)
+/^[a-z0-9_]+( staticlib)?:/ {
+    crate = $0
+    sub(/[ :].*/, "", crate)
+    sub(/^[^:]*:/, "")
     if (family == "")
         fail(crate " stands under no family")
     order[++count] = crate
     family_of[crate] = family
     if (width < length(crate))
         width = length(crate)
-    for (i = 2; i <= NF; i++) {
+    for (i = 1; i <= NF; i++) {
         if (!($i in is_crate))
             continue
         if (!($i in family_of))

@@ -63,7 +63,7 @@ if [ ! -x "$tool" ] || [ -n "$(find tools peer -newer "$tool")" ]; then
 fi
 emulated "$tool" pack >"$work/image" || refuse 1 "nothing was run on '$name'"
 
-# One run at a time proves and uses the program. The lock is this file, as target/ may be removed.
+# One run at a time proves and uses the program. The lock is this file, as crates/trace/out may be removed.
 command -v rt >/dev/null || missing 'rt, the command of Rattle'
 command -v flock >/dev/null || missing 'flock (Debian: util-linux)'
 exec 9<traces/run.sh
@@ -72,27 +72,34 @@ flock -n 9 || {
     flock 9
 }
 
-# Passes on all that rt says, and shows each crate that it has just proved.
+# Passes on all that rt says, and shows each crate that it has just proved: its name stands in a line of its own, some lines above the verdict.
 show_progress() {
     while IFS= read -r line; do
         printf '%s\n' "$line"
-        case $line in 'rt: '*' proved ('[0-9]*) printf '%s\n' "$line" >&2 ;; esac
+        case $line in
+        'crate '*) crate=${line#crate } ;;
+        'logic=proved '*) printf '%s: proved\n' "${crate%%:*}" >&2 ;;
+        esac
     done
 }
 
+# rt proves and builds the program, and runs it; that run gets no image.
 log=target/compare/trace.log
 mkdir -p target/compare
-[ -x target/bin/trace ] || say 'the first run proves some crates, which takes some minutes'
-{ rt check trace 2>&1 || : >"$work/failed"; } | show_progress >"$log"
+[ -x crates/trace/out/trace ] || say 'the first run proves some crates, which takes some minutes'
+{ (cd crates/trace && rt run) 2>&1 </dev/null || : >"$work/failed"; } | show_progress >"$log"
 if [ -e "$work/failed" ]; then
-    # The crates that stand on the one that failed say nothing of why.
-    grep -v 'NOT PROVED: its dependency' "$log" | tail -n 15 >&2
+    # How many modules rt loaded says nothing of why.
+    grep -v -E '^(logic /|statements |library |axioms |only=)' "$log" | tail -n 15 >&2
     refuse 1 "the trace program was not proved; $log has all that rt said"
 fi
 
-# The program gives no exit status of its own, but says what went wrong.
-said=$(emulated target/bin/trace 2>&1 <"$work/image" >"$work/text") ||
-    refuse 1 "the trace program died: $said"
-[ -z "$said" ] || refuse 1 "$said"
+# The program ends with 1 where it says what went wrong.
+status=0
+said=$(emulated crates/trace/out/trace 2>&1 <"$work/image" >"$work/text") || status=$?
+[ "$status" -eq 0 ] || [ "$status" -eq 1 ] || refuse 1 "the trace program died: $said"
+if [ "$status" -ne 0 ] || [ -n "$said" ]; then
+    refuse 1 "${said:-the trace program failed}"
+fi
 exec 9<&-
 cat "$work/text"

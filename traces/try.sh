@@ -102,29 +102,30 @@ refused 'an unknown option' 2 'no option --quick' --quick
 refused 'two traces' 2 'more than one' traces/printed.trace traces/ties.trace
 
 # A first run, in a copy that has nothing proved: the line of each crate is shown before rt goes on.
-program=$(pwd)/target/bin/trace
+program=$(pwd)/crates/trace/out/trace
 mkdir "$work/a copy"
+mkdir -p "$work/a copy/crates/trace"
 cp -R traces tools compare peer include "$work/a copy"
 cd "$work/a copy"
 cat >"$work/rt" <<END
-echo 'rt: units proved (unchanged since it was last proved)'
 echo 'fn room::put: proved'
-echo 'rt: room proved (5 s)'
+echo 'crate room: modules loaded=24 checked=9'
+echo 'logic=proved functions=1 sum=5 statements=trusted incremental=trusted'
 turns=0
 until [ -e '$work/go-on' ] || [ \$turns -eq 300 ]; do sleep 0.1; turns=\$((turns + 1)); done
-mkdir -p target/bin
-[ ! -e '$work/go-on' ] || cp '$program' target/bin
-echo 'rt: ok, 2 crates proved'
+mkdir -p out
+[ ! -e '$work/go-on' ] || cp '$program' out
+echo 'rt: running out/trace; to give it other input, run that file yourself'
 END
 status=0
 traces/run.sh >"$work/printed" 2>"$work/said" &
-await 'room proved' "$work/said"
+await 'room: proved' "$work/said"
 : >"$work/go-on"
 wait $! || status=$?
 judge 'a first run' 0 traces/printed.text 'first run proves some crates'
 [ "$(wc -l <"$work/said")" -eq 2 ] || failed 'a first run: said more than it should'
 
-echo 'echo "rt: trace proved (unchanged since it was last proved)"' >"$work/rt"
+echo 'echo "rt: nothing has changed since the last proved build, by out/trace.stamp, so nothing is checked now"' >"$work/rt"
 try 'a second run' 0 traces/printed.text '' traces/run.sh
 
 # Twice at once: while the lock is held both wait, and a wrong trace is still refused; then rt finds no other rt at work.
@@ -155,15 +156,22 @@ done
 # Where rt or the program fails there is no text.
 cat >"$work/rt" <<'END'
 echo 'room.rt:5: error: the goal'
-echo 'rt: room NOT PROVED (5 s)'
-for name in 1 2 3 4 5 6 7 8 9 10 11 12 13 14 15 16; do echo "rt: $name NOT PROVED: its dependency room is not proved"; done
+echo 'fn room::put: not proved'
+for name in 1 2 3 4 5 6 7 8 9 10 11 12 13 14 15 16; do echo "statements $name: modules loaded=0 checked=0"; done
+echo 'crate room: modules loaded=24 checked=9'
+echo 'logic=not-proved'
+echo 'rt: the library room did not build, so nothing above it was checked'
 exit 1
 END
 try 'a crate that is not proved' 1 /dev/null 'error: the goal' traces/run.sh
 : >"$work/rt"
-printf '#!/bin/sh\necho T\nexit 3\n' >target/bin/trace
+printf '#!/bin/sh\necho T\nexit 3\n' >crates/trace/out/trace
 try 'a program that dies' 1 /dev/null 'trace program died' traces/run.sh
-printf '#!/bin/sh\necho T\necho trace: cannot write >&2\n' >target/bin/trace
-try 'a program that fails' 1 /dev/null 'run.sh: .*trace' traces/run.sh
+printf '#!/bin/sh\necho T\necho trace: cannot write >&2\nexit 1\n' >crates/trace/out/trace
+try 'a program that fails' 1 /dev/null 'run.sh: trace: cannot write' traces/run.sh
+printf '#!/bin/sh\necho T\necho trace: cannot write >&2\n' >crates/trace/out/trace
+try 'a program that fails with status 0' 1 /dev/null 'run.sh: .*trace' traces/run.sh
+printf '#!/bin/sh\necho T\nexit 1\n' >crates/trace/out/trace
+try 'a program that fails without a word' 1 /dev/null 'trace program failed' traces/run.sh
 
 printf '%s cases of traces/run.sh tried\n' "$tried"
