@@ -1,44 +1,68 @@
 // Runs each trace file that its arguments name, and prints the name and the text: document 01's cases and refused images.
 #![tactic(auto)]
 
-use libc::STDOUT_FILENO;
+ghost use Rattle.std.specs.Prelude.{◌≤◌, length, IfOk};
+
+use std::env::{Env, FillError};
+use std::io::Read;
+use std::rt::Files;
+use std::{fs, io};
 
 const IMAGE_MOST: usize = 33280;
 
 const TEXT_MOST: usize = 69467;
 
-fn tell(image: &[u8]) {
+// Reads until the area is full or the input ends, and returns how many bytes stand at the area's start.
+fn read_full<R: Read>(input: &mut R, area: &mut [u8]) -> io::Result<usize>
+    ensures { IfOk result (λ n. n ≤ length area.new) }
+{
+    let mut got = 0;
+    while got < area.len() {
+        let n = input.read(&mut area[got..])?;
+        if n == 0 {
+            break;
+        }
+        got += n;
+    }
+    Ok(got)
+}
+
+// Prints the text of an image, and nothing if the area were too short for it.
+fn tell(rt: &impl Print, image: &[u8]) -> io::Result<()> {
     let mut answer = [0u8; TEXT_MOST];
     let result = run::whole_run(image, &mut answer);
-    let n = io::count(result as isize, &answer);
-    io::write_all(STDOUT_FILENO, &answer[..n]);
+    if result < 0 {
+        return Ok(());
+    }
+    rt.write_all(&answer[..result as usize])
 }
 
-fn tell_file(path: &[u8]) {
-    io::write_all(STDOUT_FILENO, path);
-    io::write_all(STDOUT_FILENO, b"\n");
-    let fd = os::open_read(path);
-    if fd < 0 {
-        os::fail(path);
-        return;
-    }
+fn tell_file(rt: &(impl Files + Print + Eprint), path: &str) -> io::Result<()> {
+    println!(rt; "{path}")?;
+    let mut file = match fs::open(rt, path) {
+        Ok(file) => file,
+        Err(e) => return eprintln!(rt; "{path}: {e}"),
+    };
     let mut image = [0u8; IMAGE_MOST];
-    let got = io::read_full(fd, &mut image);
-    libc::close(fd);
-    tell(&image[..got]);
+    let got = read_full(&mut file, &mut image)?;
+    tell(rt, &image[..got])
 }
 
-fn tell_argument(i: usize) {
-    let mut path = [0u8; 64];
-    let length = os::arg(i, &mut path);
-    tell_file(&path[..length]);
-}
-
-fn main() {
-    let count = os::arg_count();
-    let mut i = 1;
-    while i < count {
-        tell_argument(i);
-        i += 1;
+fn tell_argument(rt: &(impl Files + Print + Eprint), argument: &[u8]) -> io::Result<()> {
+    match str::from_utf8(argument) {
+        Ok(path) => tell_file(rt, path),
+        Err(_) => Err(io::Error::from(io::ErrorKind::InvalidFilename)),
     }
+}
+
+fn main(rt: HostRuntime) -> io::Result<()> {
+    let mut argument = [0u8; 64];
+    for i in 1..usize::MAX {
+        match rt.arg(i, &mut argument) {
+            Ok(length) => tell_argument(&rt, &argument[..length])?,
+            Err(FillError::NotPresent) => break,
+            Err(FillError::TooLong) => return Err(io::Error::from(io::ErrorKind::InvalidFilename)),
+        }
+    }
+    Ok(())
 }
