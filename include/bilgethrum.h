@@ -1,6 +1,6 @@
 /* Declares every call that the proved archive offers to C hosts.
  *
- * Link libbilgethrum.a, which `rt staticlib bilgethrum` writes.  The archive holds
+ * Link libbilgethrum.a, which `rt lib` in crates/bilgethrum writes.  The archive holds
  * x86-64 code for Linux's calling convention.  It calls nothing but memset, and has no
  * heap and no variable of its own: all state is lent by the host.
  *

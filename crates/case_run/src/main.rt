@@ -48,10 +48,15 @@ fn tell_file(rt: &(impl Files + Print + Eprint), path: &str) -> io::Result<()> {
     tell(rt, &image[..got])
 }
 
+// A name that is no UTF-8 is printed and then passed over, since std opens no such file.
 fn tell_argument(rt: &(impl Files + Print + Eprint), argument: &[u8]) -> io::Result<()> {
     match str::from_utf8(argument) {
         Ok(path) => tell_file(rt, path),
-        Err(_) => Err(io::Error::from(io::ErrorKind::InvalidFilename)),
+        Err(_) => {
+            rt.write_all(argument)?;
+            println!(rt; "")?;
+            eprintln!(rt; "case_run: the name of a file is no UTF-8")
+        }
     }
 }
 
@@ -61,7 +66,8 @@ fn main(rt: HostRuntime) -> io::Result<()> {
         match rt.arg(i, &mut argument) {
             Ok(length) => tell_argument(&rt, &argument[..length])?,
             Err(FillError::NotPresent) => break,
-            Err(FillError::TooLong) => return Err(io::Error::from(io::ErrorKind::InvalidFilename)),
+            // A longer name stands for an empty one, which opens no file.
+            Err(FillError::TooLong) => tell_file(&rt, "")?,
         }
     }
     Ok(())
