@@ -6,7 +6,9 @@ use Prim.Native.Nat.{ℕ, suc, ◌+◌, ◌≤◌}
 use native.Mathlib.Omega.{arith}
 use lib.Dec.{leb}
 use lib.ListN.{length, length-append}
+use Rattle.refusals.specs.declared.Refusal.{Refusal}
 use Rattle.refusals.specs.First.{first_refusal}
+use Rattle.refusals.specs.Numbers.{number}
 use Rattle.refusals.proofs.Laws.{given}
 use Rattle.units.specs.declared.Marking.{Marking}
 use Rattle.units.specs.declared.Marking.TheVariants.{Unmarked, Marked}
@@ -68,27 +70,28 @@ module _ (σ : Terms) where
       (invariant σ (λ (i : Unit {0}) (s : Line). Each (NumberMost (admissions s)) s.queue) (λ i s c o h m. (tt, numbered s h m)) cs tt fresh tt).1
 
   -- A refusal's number stands in the table.
-  arrival-refused : (s : Line) (μ : Marking) (len t n : ℕ) (x : Waiting) (o : Option ℕ) → first_refusal (arrival_tests σ s μ len t) ≡ o
-      → (arriving σ o s x t).answer ≡ refused n → n ≤ 7
-  arrival-refused s μ len t n x none e h = let z : ◌≡◌ {A = ℕ} 0 1 = cc in absurd (omega arith)
-  arrival-refused s μ len t n x (some k) e h =
-      let same : k ≡ n = cc in
-      rw (← same) (given (λ (n : ℕ). n ≤ 7) (arrival_tests σ s μ len t) k (omega arith) e)
+  arrival-refused : (s : Line) (μ : Marking) (len t : ℕ) (q : Refusal) (x : Waiting) (o : Option Refusal) → first_refusal (arrival_tests σ s μ len t) ≡ o
+      → (arriving σ o s x t).answer ≡ refused q → number q ≤ 7
+  arrival-refused s μ len t q x none e h = let z : ◌≡◌ {A = ℕ} 0 1 = cc in absurd (omega arith)
+  arrival-refused s μ len t q x (some r) e h =
+      let same : r ≡ q = cc in
+      rw (← same) (given (λ (r : Refusal). number r ≤ 7) (arrival_tests σ s μ len t) r (omega arith) e)
 
-  never_refused : (s : Line) (t n : ℕ) (o : Option Decision) → (settled σ s t o).answer ≡ refused n → n ≤ 7
-  never_refused s t n none h = let z : ◌≡◌ {A = ℕ} 0 1 = cc in absurd (omega arith)
-  never_refused s t n (some c) h = let z : ◌≡◌ {A = ℕ} 0 1 = cc in absurd (omega arith)
+  never_refused : (s : Line) (t : ℕ) (q : Refusal) (o : Option Decision) → (settled σ s t o).answer ≡ refused q → number q ≤ 7
+  never_refused s t q none h = let z : ◌≡◌ {A = ℕ} 0 1 = cc in absurd (omega arith)
+  never_refused s t q (some c) h = let z : ◌≡◌ {A = ℕ} 0 1 = cc in absurd (omega arith)
 
-  advance-refused : (s : Line) (t n : ℕ) (o : Option ℕ) → first_refusal (advance_tests σ s t) ≡ o → (advancing σ o s t).answer ≡ refused n → n ≤ 7
-  advance-refused s t n none e h = never_refused s t n (if_due σ (leb (due s) t) (decide σ (due s) s.queue)) h
-  advance-refused s t n (some k) e h =
-      let same : k ≡ n = cc in
-      rw (← same) (given (λ (n : ℕ). n ≤ 7) (advance_tests σ s t) k (omega arith) e)
+  advance-refused : (s : Line) (t : ℕ) (q : Refusal) (o : Option Refusal) → first_refusal (advance_tests σ s t) ≡ o
+      → (advancing σ o s t).answer ≡ refused q → number q ≤ 7
+  advance-refused s t q none e h = never_refused s t q (if_due σ (leb (due s) t) (decide σ (due s) s.queue)) h
+  advance-refused s t q (some r) e h =
+      let same : r ≡ q = cc in
+      rw (← same) (given (λ (r : Refusal). number r ≤ 7) (advance_tests σ s t) r (omega arith) e)
 
-  refused_few : (s : Line) (c : Call) (n : ℕ) → (step σ s c).answer ≡ refused n → n ≤ 7
+  refused_few : (s : Line) (c : Call) (q : Refusal) → (step σ s c).answer ≡ refused q → number q ≤ 7
   unfolding step
-  refused_few s (arrive μ len place t) n h = arrival-refused s μ len t n (newcomer σ s μ len place t) _ refl h
-  refused_few s (advance t) n h = advance-refused s t n _ refl h
+  refused_few s (arrive μ len place t) q h = arrival-refused s μ len t q (newcomer σ s μ len place t) _ refl h
+  refused_few s (advance t) q h = advance-refused s t q _ refl h
 
   -- The extra delay of a newcomer, planned behind all that waits.
   new_extra : (e d z : ℕ) (q : List Waiting) (x : Waiting) → Planned σ e d z (unmarked_of (q ++ x ∷ [])) → extra_delay σ d q x ≤ σ.alpha
@@ -114,9 +117,9 @@ module _ (σ : Terms) where
       )
 
   bounded : {c : Call} (n e : ℕ) (s : Line) {o : Outcome} → admissions s ≤ n → Each (NumberMost (admissions s)) s.queue
-      → length (marked_of s.queue) ≤ σ.room → Waits σ e s → ((k : ℕ) → o.answer ≡ refused k → k ≤ 7) → Move σ s c o
+      → length (marked_of s.queue) ≤ σ.room → Waits σ e s → ((q : Refusal) → o.answer ≡ refused q → number q ≤ 7) → Move σ s c o
       → AnswerBounds σ (suc n) o.answer
-  bounded n e s few h room w r (refuses k) = r k refl
+  bounded n e s few h room w r (refuses q) = r q refl
   bounded n e s few h room w r (admits {μ = μ} {len = len} {place = place} {t = t} a) =
       let x : Waiting = newcomer σ s μ len place t in
       let new = admitted-waits σ e s μ len place t w a in
