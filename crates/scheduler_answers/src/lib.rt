@@ -1,34 +1,27 @@
-// The answers of the three calls, each with the scheduler from there on.
+// The answers of the three calls, each with the scheduler from there on. A refused call answers with its refusal.
 #![tactic(auto)]
 
+use refusals::Refusal;
 use room::Packet;
 use scheduler_state::Scheduler;
 use units::{Instant, Ticks};
 
-// The answer to an opening. A refusal bears document 01's number, here and below.
-#[derive(Clone, Copy)]
-pub enum Opening {
-    Ready,
-    Refused(u8),
-}
-
 #[derive(Clone, Copy)]
 pub struct Opened {
-    pub answer: Opening,
+    pub answer: Result<(), Refusal>,
     pub scheduler: Scheduler,
 }
 
-// The answer to an arrival: the packet's number and, if it is unmarked, its extra delay.
+// An admission: the packet's number and, if it is unmarked, its extra delay.
 #[derive(Clone, Copy)]
-pub enum Admission {
+pub enum Admitted {
     Unmarked { number: u32, extra: Ticks },
     Marked { number: u32 },
-    Refused(u8),
 }
 
 #[derive(Clone, Copy)]
 pub struct Arrived {
-    pub answer: Admission,
+    pub answer: Result<Admitted, Refusal>,
     pub scheduler: Scheduler,
 }
 
@@ -42,22 +35,9 @@ pub struct Start {
     pub packet: Packet,
 }
 
-// What an accepted advance finds.
-#[derive(Clone, Copy)]
-pub enum Decision {
-    Started(Start),
-    NothingDue,
-}
-
-// The answer to an advance: refusals stand apart, so that a decision is taken apart by itself.
-#[derive(Clone, Copy)]
-pub enum Outcome {
-    Decided(Decision),
-    Refused(u8),
-}
-
+// An accepted advance answers with its start, or with none where nothing was due.
 #[derive(Clone, Copy)]
 pub struct Advanced {
-    pub answer: Outcome,
+    pub answer: Result<Option<Start>, Refusal>,
     pub scheduler: Scheduler,
 }
