@@ -1,5 +1,5 @@
 -- What an admission gives, and what it leaves in the room. Assumes nothing.
-use Rattle.std.specs.Prelude.{◌+◌, ◌-◌}
+use Rattle.std.specs.Prelude.{◌+◌, ◌-◌, Ok}
 use Rattle.units.specs.declared.Ticks.{Ticks}
 use Rattle.units.specs.declared.Instant.{Instant}
 use Rattle.units.specs.declared.Marking.TheVariants.{Unmarked}
@@ -10,7 +10,7 @@ use Rattle.scheduler_state.specs.Pick.{by_marking}
 use Rattle.scheduler_state.specs.Counts.{admissions_of, waiting_of}
 use Rattle.scheduler_state.specs.Delays.{own_of}
 use Rattle.scheduler_admission.specs.Admitted.{admitted_unmarked, admitted_marked}
-use Rattle.scheduler_answers.specs.declared.Admission.{Admission}
+use Rattle.scheduler_answers.specs.declared.Admitted.{Admitted}
 use Rattle.scheduler_answers.specs.declared.Arrived.{Arrived}
 use Rattle.scheduler_answers.specs.Packets.{time_of}
 
@@ -22,14 +22,14 @@ new_delay s at = own_of s.line s.extra (waiting_of Unmarked s.tallies) at
 abbrev pub admit_unmarked : Scheduler → Packet → Arrived
 admit_unmarked s p =
     record {
-      answer = Admission.Unmarked (admissions_of s.tallies + 1) (new_delay s p.arrival);
+      answer = Ok (Admitted.Unmarked (admissions_of s.tallies + 1) (new_delay s p.arrival));
       scheduler = admitted_unmarked s (time_of s p) (new_delay s p.arrival) p.arrival;
     }
 
 -- A marked packet is admitted: its number.
 abbrev pub admit_marked : Scheduler → Packet → Arrived
 admit_marked s p =
-    record { answer = Admission.Marked (admissions_of s.tallies + 1); scheduler = admitted_marked s p.arrival }
+    record { answer = Ok (Admitted.Marked (admissions_of s.tallies + 1)); scheduler = admitted_marked s p.arrival }
 
 -- An admission, by the marking.
 unfoldable pub admit_of : Scheduler → Packet → Arrived

@@ -9,7 +9,7 @@ ghost use Rattle.scheduler_admission.specs.Admit.{admit_unmarked, admit_marked, 
 ghost use Rattle.scheduler_admission.specs.Bounds.{Admits};
 
 use room::{Packet, Room};
-use scheduler_answers::{Admission, Arrived};
+use scheduler_answers::{Admitted, Arrived};
 use scheduler_state::{Extra, Scheduler};
 use units::{Instant, Marking, Ticks};
 
@@ -74,7 +74,7 @@ fn admit_unmarked(scheduler: Scheduler, packet: Packet, room: &mut Room) -> Arri
     room::enter(scheduler.tallies.admitted.unmarked, number, less, room);
     let time = units::transmission_time(scheduler.settings, packet.length);
     Arrived {
-        answer: Admission::Unmarked { number, extra: own },
+        answer: Ok(Admitted::Unmarked { number, extra: own }),
         scheduler: admitted_unmarked(scheduler, time, own, packet.arrival),
     }
 }
@@ -86,7 +86,7 @@ fn admit_marked(scheduler: Scheduler, packet: Packet) -> Arrived
 {
     let number = scheduler_state::admissions(scheduler.tallies) + 1;
     Arrived {
-        answer: Admission::Marked { number },
+        answer: Ok(Admitted::Marked { number }),
         scheduler: admitted_marked(scheduler, packet.arrival),
     }
 }

@@ -1,5 +1,5 @@
 -- What a decision gives: the packet at the head starts, or the first waiting unmarked one. Assumes nothing.
-use Rattle.std.specs.Prelude.{Bool, false, ℕ, ◌+◌, ◌-◌}
+use Rattle.std.specs.Prelude.{Bool, false, ℕ, ◌+◌, ◌-◌, Some, Ok}
 use Rattle.units.specs.declared.Ticks.{Ticks}
 use Rattle.units.specs.declared.Instant.{Instant}
 use Rattle.units.specs.declared.Marking.TheVariants.{Unmarked}
@@ -10,8 +10,6 @@ use Rattle.scheduler_state.specs.Pick.{pick, by_marking}
 use Rattle.scheduler_state.specs.Counts.{gone_of, waiting_of}
 use Rattle.scheduler_state.specs.Delays.{fits_of}
 use Rattle.scheduler_decision.specs.Started.{started_marked, started_unmarked}
-use Rattle.scheduler_answers.specs.declared.Decision.{Decision}
-use Rattle.scheduler_answers.specs.declared.Outcome.{Outcome}
 use Rattle.scheduler_answers.specs.declared.Advanced.{Advanced}
 use Rattle.scheduler_answers.specs.Packets.{time_of}
 
@@ -24,9 +22,7 @@ unfoldable pub start_head : Scheduler → (head : Packet) → (due at : Instant)
 start_head s head due at =
     record {
       answer =
-          Outcome.Decided
-          (Decision.Started
-          (record { number = gone_of s.tallies + 1; at = due; extra = record { 0 = 0 }; dropped = 0; packet = head }));
+          Ok (Some (record { number = gone_of s.tallies + 1; at = due; extra = record { 0 = 0 }; dropped = 0; packet = head }));
       scheduler = started_marked s due (time_of s head) at;
     }
 
@@ -49,8 +45,8 @@ unfoldable pub start_first : Scheduler → Room → (due at : Instant) → Advan
 start_first s r due at =
     record {
       answer =
-          Outcome.Decided
-          (Decision.Started
+          Ok
+          (Some
           (record { number = first_number s r; at = due; extra = s.extra.first; dropped = ahead_count s r; packet = first_packet s r }));
       scheduler = started_unmarked s due (time_of s (first_packet s r)) (next_less s r) (ahead_count s r) at;
     }

@@ -11,7 +11,7 @@ ghost use Rattle.scheduler_decision.specs.Decide.{sent_of, start_head, start_fir
 ghost use Rattle.scheduler_decision.specs.Bounds.{HeadStarts, FirstStarts, Decides};
 
 use room::{Packet, Room};
-use scheduler_answers::{Advanced, Decision, Outcome, Start};
+use scheduler_answers::{Advanced, Start};
 use scheduler_state::{Extra, Line, Scheduler};
 use units::{Instant, Marking, Ticks};
 
@@ -125,7 +125,7 @@ fn start_head(scheduler: Scheduler, head: Packet, due: Instant, at: Instant) -> 
         packet: head,
     };
     Advanced {
-        answer: Outcome::Decided(Decision::Started(start)),
+        answer: Ok(Some(start)),
         scheduler: started_marked(scheduler, due, time, at),
     }
 }
@@ -150,7 +150,7 @@ fn start_first(scheduler: Scheduler, due: Instant, at: Instant, room: &Room) -> 
         packet,
     };
     Advanced {
-        answer: Outcome::Decided(Decision::Started(start)),
+        answer: Ok(Some(start)),
         scheduler: started_unmarked(scheduler, due, time, less, dropped, at),
     }
 }

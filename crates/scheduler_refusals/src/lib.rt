@@ -1,15 +1,16 @@
-// Whether a call is accepted: the due instant, and the refusal numbers of an arrival and of an advance. The functions serve the crate
+// Whether a call is accepted: the due instant, and the refusals of an arrival and of an advance. The functions serve the crate
 // `scheduler` only.
 #![tactic(auto)]
 
-ghost use Rattle.std.specs.Prelude.{◌≡◌, max};
-ghost use Rattle.refusals.specs.First.{first_refusal, number_of};
+ghost use Rattle.std.specs.Prelude.{◌≡◌};
+ghost use Rattle.refusals.specs.First.{first_refusal, answer_by};
 ghost use Rattle.rules.specs.Terms.{terms_of};
 ghost use Rattle.rules.specs.Step.{outlasts};
 ghost use Rattle.scheduler_state.specs.Counts.{Counted};
 ghost use Rattle.scheduler_refusals.specs.Due.{due_of, overdue_of};
 ghost use Rattle.scheduler_refusals.specs.Refusals.{arrival_tests, advance_tests};
 
+use refusals::Refusal;
 use scheduler_state::{Line, Scheduler};
 use units::{Bytes, Instant, Marking, Settings};
 
@@ -18,18 +19,11 @@ pub const WAITING_MOST: u32 = 64;
 
 pub const ADMISSIONS_MOST: u32 = 4_294_967_295;
 
-// The later of two instants, as numbers.
-fn larger(a: u64, b: u64) -> u64
-    ensures { result ≡ max a b }
-{
-    if a <= b { b } else { a }
-}
-
 // The instant of the decision; `arrival` is that of the packet at the head.
 pub fn due(line: Line, arrival: Instant) -> Instant
     ensures { result ≡ due_of line arrival }
 {
-    Instant(larger(line.free.0, arrival.0))
+    line.free.max(arrival)
 }
 
 // Whether a decision is due strictly before this instant.
@@ -37,11 +31,7 @@ fn overdue(scheduler: Scheduler, arrival: Instant, at: Instant) -> bool
     requires { Counted scheduler.tallies }
     ensures { result ≡ overdue_of scheduler arrival at }
 {
-    if scheduler_state::waits(scheduler.tallies) {
-        let instant = due(scheduler.line, arrival);
-        return instant.0 < at.0;
-    }
-    false
+    scheduler_state::waits(scheduler.tallies) && due(scheduler.line, arrival) < at
 }
 
 // Whether a marked packet's transmission time is above alpha.
@@ -50,57 +40,49 @@ fn too_long(settings: Settings, marking: Marking, length: Bytes) -> bool
 {
     match marking {
         Marking::Unmarked => false,
-        Marking::Marked => {
-            let time = units::transmission_time(settings, length);
-            settings.alpha.0 < time.0
-        }
+        Marking::Marked => { settings.alpha < units::transmission_time(settings, length) }
     }
 }
 
-// The refusal number of an advance, 0 where it is accepted.
-pub fn advance_refusal(clock: Instant, at: Instant) -> u8
-    ensures { result ≡ number_of (first_refusal (advance_tests clock at)) }
+// Judges an advance. An arrival's instant is judged the same way.
+pub fn judge_advance(clock: Instant, at: Instant) -> Result<(), Refusal>
+    ensures { result ≡ answer_by (first_refusal (advance_tests clock at)) tt }
 {
-    if units::INSTANT_MOST < at.0 {
-        return 2;
+    if !units::instant_in_range(at) {
+        return Err(Refusal::Instant);
     }
-    if at.0 < clock.0 {
-        return 3;
+    if at < clock {
+        return Err(Refusal::BeforeClock);
     }
-    0
+    Ok(())
 }
 
-// The refusal number of an arrival, 0 where it is admitted; `arrival` is that of the packet at the head, if one waits.
-pub fn arrival_refusal(
+// Judges an arrival; `arrival` is that of the packet at the head, if one waits.
+pub fn judge_arrival(
     scheduler: Scheduler,
     arrival: Instant,
     marking: Marking,
     length: Bytes,
     at: Instant,
-) -> u8
+) -> Result<(), Refusal>
     requires { Counted scheduler.tallies }
-    ensures { result ≡ number_of (first_refusal (arrival_tests scheduler arrival marking length at)) }
+    ensures { result ≡ answer_by (first_refusal (arrival_tests scheduler arrival marking length at)) tt }
 {
     if !units::length_in_range(length) {
-        return 1;
+        return Err(Refusal::Length);
     }
-    if units::INSTANT_MOST < at.0 {
-        return 2;
-    }
-    if at.0 < scheduler.clock.0 {
-        return 3;
-    }
+    judge_advance(scheduler.clock, at)?;
     if too_long(scheduler.settings, marking, length) {
-        return 4;
+        return Err(Refusal::AboveAlpha);
     }
     if overdue(scheduler, arrival, at) {
-        return 5;
+        return Err(Refusal::Overdue);
     }
     if WAITING_MOST <= scheduler_state::waiting(marking, scheduler.tallies) {
-        return 6;
+        return Err(Refusal::RoomFull);
     }
     if ADMISSIONS_MOST <= scheduler_state::admissions(scheduler.tallies) {
-        return 7;
+        return Err(Refusal::NumbersUsed);
     }
-    0
+    Ok(())
 }
