@@ -6,7 +6,7 @@ use Rattle.rules.specs.Line.{Line, fresh}
 use Rattle.rules.specs.Step.{step, after, answers}
 use Rattle.rules.specs.Printed.{numbers_of, tally_line}
 use Rattle.rules.proofs.Opened.{opens-sound}
-use Rattle.room.specs.Room.{Room}
+use Rattle.room.specs.declared.Room.{Room}
 use Rattle.scheduler_state.specs.declared.Scheduler.{Scheduler}
 use Rattle.scheduler_answers.specs.declared.Admission.{Admission}
 use Rattle.scheduler_answers.specs.declared.Decision.{Decision}

@@ -1,7 +1,7 @@
 -- An opening for a C host, from the scheduler's. Assumes nothing.
 use mathlib.Core.Path.{◌≡◌, refl, ap, subst⁻¹, ◌∙◌}
 use Prim.Native.Nat.{ℕ}
-use Rattle.room.specs.Room.{Room}
+use Rattle.room.specs.declared.Room.{Room}
 use Rattle.room.specs.Held.{Sized}
 use Rattle.scheduler_answers.specs.declared.Opened.{Opened}
 use Rattle.scheduler_answers.specs.Values.{opening_number}

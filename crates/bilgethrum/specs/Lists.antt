@@ -5,7 +5,7 @@ use Rattle.rules.specs.Line.{fresh}
 use Rattle.rules.specs.Step.{Call, advance, after, answers}
 use Rattle.rules.specs.Printed.{numbers_of, tally_line}
 use Rattle.rules.specs.Open as rules
-use Rattle.room.specs.Room.{Room}
+use Rattle.room.specs.declared.Room.{Room}
 use Rattle.room.specs.Held.{Sized}
 use Rattle.scheduler.specs.Steps.{arrival_of}
 use Rattle.bilgethrum_values.specs.declared.HostSettings.{HostSettings}

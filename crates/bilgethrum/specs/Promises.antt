@@ -5,7 +5,8 @@ use Rattle.refusals.specs.First.{first_refusal}
 use Rattle.rules.specs.Terms.{terms_of}
 use Rattle.rules.specs.Step.{advance}
 use Rattle.rules.specs.Open as rules
-use Rattle.room.specs.Room.{Room, with_kept}
+use Rattle.room.specs.declared.Room.{Room}
+use Rattle.room.specs.Room.{with_kept}
 use Rattle.room.specs.Held.{Sized}
 use Rattle.scheduler_state.specs.declared.Scheduler.{Scheduler}
 use Rattle.scheduler_state.specs.Pick.{pick}

@@ -1,7 +1,7 @@
 -- Each promise for C hosts leaves one possible answer and one content of what is lent. (The number of a view is given by an equation, the whole run
 -- by `OneAnswer` of the crate `run`.) Assumes nothing.
 use Rattle.std.specs.Prelude.{◌≡◌, List, ℕ}
-use Rattle.room.specs.Room.{Room}
+use Rattle.room.specs.declared.Room.{Room}
 use Rattle.block_columns.specs.Columns.{Columns}
 use Rattle.bilgethrum_values.specs.declared.HostSettings.{HostSettings}
 use Rattle.bilgethrum_values.specs.declared.HostPacket.{HostPacket}

@@ -3,7 +3,7 @@ use Rattle.std.proofs.Math.Option.{Option, none, some}
 use Rattle.std.specs.Prelude.{ℕ, min, get_or}
 use Rattle.units.specs.declared.Settings.{Settings}
 use Rattle.room.specs.declared.Packet.{Packet}
-use Rattle.room.specs.Room.{code_of, marking_of}
+use Rattle.units.specs.Codes.{code_of, marking_of}
 use Rattle.scheduler_state.specs.declared.Tallies.{Tallies}
 use Rattle.scheduler_answers.specs.declared.Admission.{Admission}
 use Rattle.scheduler_answers.specs.declared.Outcome.{Outcome}

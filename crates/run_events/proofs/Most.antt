@@ -18,7 +18,7 @@ use Rattle.rules.specs.Opened.{InRange}
 use Rattle.rules.proofs.OneMore.{answers-more}
 use Rattle.rules.proofs.Opened.{opens-sound, answers-bounded, tallies-bounded}
 use Rattle.block_image.specs.Image.{event_at}
-use Rattle.room.specs.Room.{Room}
+use Rattle.room.specs.declared.Room.{Room}
 use Rattle.scheduler_state.specs.declared.Scheduler.{Scheduler}
 use Rattle.scheduler_answers.specs.declared.Admission.{Admission}
 use Rattle.scheduler_answers.specs.declared.Decision.{Decision}

@@ -5,7 +5,7 @@ use Prim.Native.Nat.{ℕ}
 use Rattle.units.specs.declared.Instant.{Instant}
 use Rattle.rules.specs.Step.{Call, advance}
 use Rattle.room.specs.declared.Packet.{Packet}
-use Rattle.room.specs.Room.{Room}
+use Rattle.room.specs.declared.Room.{Room}
 use Rattle.scheduler_state.specs.declared.Scheduler.{Scheduler}
 use Rattle.scheduler_answers.specs.declared.Arrived.{Arrived}
 use Rattle.scheduler_answers.specs.declared.Advanced.{Advanced}

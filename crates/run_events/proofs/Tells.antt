@@ -11,7 +11,7 @@ use borrow.Author.Tests.{leb-true, leb-false}
 use Rattle.lists.specs.Rows.{rows}
 use Rattle.block_record.specs.declared.Event.{Event}
 use Rattle.block_image.specs.Image.{event_at}
-use Rattle.room.specs.Room.{Room}
+use Rattle.room.specs.declared.Room.{Room}
 use Rattle.scheduler_state.specs.declared.Scheduler.{Scheduler}
 use Rattle.scheduler.specs.Machine.{made, scheduler_after, room_after, values_by, FromOpening}
 use Rattle.text.specs.Text.{values_text}

@@ -8,7 +8,7 @@ use Rattle.rules.specs.Line.{fresh}
 use Rattle.rules.specs.Step.{after, answers}
 use Rattle.rules.specs.Printed.{line_of, tally_line}
 use Rattle.rules.specs.Open.{opening}
-use Rattle.room.specs.Room.{Room}
+use Rattle.room.specs.declared.Room.{Room}
 use Rattle.room.specs.Held.{Sized}
 use Rattle.scheduler_state.specs.declared.Scheduler.{Scheduler}
 use Rattle.scheduler_answers.specs.declared.Opened.{Opened}

@@ -1,7 +1,7 @@
 -- One event on the scheduler: its line told to the area, and what is left. Assumes nothing.
 use Rattle.std.specs.Prelude.{◌≡◌, List, ℕ}
 use Rattle.rules.specs.Step.{Call}
-use Rattle.room.specs.Room.{Room}
+use Rattle.room.specs.declared.Room.{Room}
 use Rattle.scheduler_state.specs.declared.Scheduler.{Scheduler}
 use Rattle.scheduler.specs.Machine.{made, FromOpening}
 use Rattle.text.specs.Text.{values_text}

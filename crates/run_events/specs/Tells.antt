@@ -1,6 +1,6 @@
 -- Events played one after the other: what the scheduler and its room have come to, and the text so far. Assumes nothing.
 use Rattle.std.specs.Prelude.{◌≡◌, List, ℕ}
-use Rattle.room.specs.Room.{Room}
+use Rattle.room.specs.declared.Room.{Room}
 use Rattle.scheduler_state.specs.declared.Scheduler.{Scheduler}
 use Rattle.scheduler.specs.Machine.{scheduler_after, room_after, values_by, FromOpening}
 use Rattle.text_lines.specs.Told as text

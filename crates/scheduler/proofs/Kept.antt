@@ -9,7 +9,8 @@ use Rattle.units.specs.declared.Marking.TheVariants.{Unmarked, Marked}
 use Rattle.units.specs.declared.Marking.{Marking}
 use Rattle.rules.specs.Step.{Call, arrive, advance}
 use Rattle.room.specs.declared.Packet.{Packet}
-use Rattle.room.specs.Room.{Room, with_kept, with_packet}
+use Rattle.room.specs.declared.Room.{Room}
+use Rattle.room.specs.Room.{with_kept, with_packet}
 use Rattle.room.proofs.Keeping.{
   sized-kept,
   packet-past-kept,

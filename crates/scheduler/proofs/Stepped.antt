@@ -13,7 +13,7 @@ use Rattle.rules.specs.Step.{Call, advance, Answer, admitted, started, nothing_d
 use Rattle.rules.specs.Printed.{line_of, numbers_of}
 use Rattle.rules.specs.Open as asked
 use Rattle.room.specs.declared.Packet.{Packet}
-use Rattle.room.specs.Room.{Room}
+use Rattle.room.specs.declared.Room.{Room}
 use Rattle.scheduler_state.specs.declared.Scheduler.{Scheduler}
 use Rattle.scheduler_state.specs.Pick.{pick}
 use Rattle.scheduler_answers.specs.declared.Admission.{Admission}

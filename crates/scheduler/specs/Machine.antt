@@ -9,7 +9,7 @@ use Rattle.rules.specs.Line.{Line, fresh}
 use Rattle.rules.specs.Step.{Call, arrive, advance, after}
 use Rattle.rules.specs.Open as rules
 use Rattle.room.specs.declared.Packet.{Packet}
-use Rattle.room.specs.Room.{Room}
+use Rattle.room.specs.declared.Room.{Room}
 use Rattle.room.specs.Held.{Sized}
 use Rattle.scheduler_state.specs.declared.Scheduler.{Scheduler}
 use Rattle.scheduler.specs.Calls.{open_of, arrive_of, arrive_room, advance_of}

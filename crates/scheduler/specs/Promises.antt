@@ -8,7 +8,8 @@ use Rattle.rules.specs.Terms.{terms_of}
 use Rattle.rules.specs.Step.{Call, advance}
 use Rattle.rules.specs.Open as rules
 use Rattle.room.specs.declared.Packet.{Packet}
-use Rattle.room.specs.Room.{Room, with_kept}
+use Rattle.room.specs.declared.Room.{Room}
+use Rattle.room.specs.Room.{with_kept}
 use Rattle.room.specs.Held.{Sized}
 use Rattle.scheduler_state.specs.declared.Scheduler.{Scheduler}
 use Rattle.scheduler_answers.specs.declared.Opened.{Opened}

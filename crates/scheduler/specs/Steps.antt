@@ -4,7 +4,7 @@ use Rattle.std.proofs.Math.Option.{Option}
 use Rattle.rules.specs.Step.{Call, Outcome, arrive, step}
 use Rattle.rules.specs.Printed.{line_of, numbers_of}
 use Rattle.room.specs.declared.Packet.{Packet}
-use Rattle.room.specs.Room.{Room}
+use Rattle.room.specs.declared.Room.{Room}
 use Rattle.scheduler_state.specs.declared.Scheduler.{Scheduler}
 use Rattle.scheduler.specs.Machine.{FromOpening, terms_by, line_by}
 use Rattle.scheduler.specs.Represents.{started_packet}

@@ -4,7 +4,8 @@ use Rattle.units.specs.declared.Ticks.{Ticks}
 use Rattle.units.specs.declared.Instant.{Instant}
 use Rattle.units.specs.declared.Marking.TheVariants.{Unmarked}
 use Rattle.room.specs.declared.Packet.{Packet}
-use Rattle.room.specs.Room.{Room, with_packet, with_difference}
+use Rattle.room.specs.declared.Room.{Room}
+use Rattle.room.specs.Room.{with_packet, with_difference}
 use Rattle.scheduler_state.specs.declared.Scheduler.{Scheduler}
 use Rattle.scheduler_state.specs.Pick.{by_marking}
 use Rattle.scheduler_state.specs.Counts.{admissions_of, waiting_of}

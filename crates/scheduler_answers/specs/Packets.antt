@@ -6,7 +6,8 @@ use Rattle.units.specs.declared.Instant.{Instant}
 use Rattle.units.specs.declared.Marking.{Marking}
 use Rattle.units.specs.Time.{transmission_time}
 use Rattle.room.specs.declared.Packet.{Packet}
-use Rattle.room.specs.Room.{Room, packet_at}
+use Rattle.room.specs.declared.Room.{Room}
+use Rattle.room.specs.Room.{packet_at}
 use Rattle.scheduler_state.specs.declared.Scheduler.{Scheduler}
 use Rattle.scheduler_state.specs.Counts.{gone_of}
 

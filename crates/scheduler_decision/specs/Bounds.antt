@@ -3,7 +3,7 @@ use Rattle.std.specs.Prelude.{◌≡◌, true, false, ◌+◌, ◌≤◌, ◌<�
 use Rattle.units.specs.declared.Instant.{Instant}
 use Rattle.units.specs.Limits.{instant_most, admissions_most}
 use Rattle.room.specs.declared.Packet.{Packet}
-use Rattle.room.specs.Room.{Room}
+use Rattle.room.specs.declared.Room.{Room}
 use Rattle.scheduler_state.specs.declared.Scheduler.{Scheduler}
 use Rattle.scheduler_state.specs.Counts.{gone_of}
 use Rattle.scheduler_state.specs.Bounds.{times_most, Small}

@@ -4,7 +4,8 @@ use Rattle.units.specs.declared.Ticks.{Ticks}
 use Rattle.units.specs.declared.Instant.{Instant}
 use Rattle.units.specs.declared.Marking.TheVariants.{Unmarked}
 use Rattle.room.specs.declared.Packet.{Packet}
-use Rattle.room.specs.Room.{Room, packet_at, number_at, difference_at}
+use Rattle.room.specs.declared.Room.{Room}
+use Rattle.room.specs.Room.{packet_at, number_at, difference_at}
 use Rattle.scheduler_state.specs.declared.Scheduler.{Scheduler}
 use Rattle.scheduler_state.specs.Pick.{pick, by_marking}
 use Rattle.scheduler_state.specs.Counts.{gone_of, waiting_of}

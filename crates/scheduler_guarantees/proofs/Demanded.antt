@@ -19,7 +19,7 @@ use Rattle.rules.proofs.Moves.{Choice, fit, unfit, move}
 use Rattle.rules.proofs.Reference.{demand_3a}
 use Rattle.rules.proofs.Place.{demand_3b}
 use Rattle.rules.proofs.Sent.{decision, demand_3c}
-use Rattle.room.specs.Room.{Room}
+use Rattle.room.specs.declared.Room.{Room}
 use Rattle.room.specs.Held.{Sized}
 use Rattle.scheduler_state.specs.Counts.{gone_of}
 use Rattle.scheduler.specs.Represents.{Numbered}

@@ -11,7 +11,7 @@ use Rattle.rules.specs.Step.{Call, step, after, answers}
 use Rattle.rules.specs.Printed.{line_of}
 use Rattle.rules.specs.Open as rules
 use Rattle.rules.proofs.Counted.{tallies-count}
-use Rattle.room.specs.Room.{Room}
+use Rattle.room.specs.declared.Room.{Room}
 use Rattle.room.specs.Held.{Sized}
 use Rattle.scheduler_state.specs.Counts.{admissions_of, gone_of}
 use Rattle.scheduler.specs.Machine.{made, values_by}

@@ -12,7 +12,7 @@ use Rattle.units.specs.declared.Marking.{Marking}
 use Rattle.units.specs.declared.Marking.TheVariants.{Unmarked, Marked}
 use Rattle.rules.specs.Step.{arrive, advance}
 use Rattle.room.specs.declared.Packet.{Packet}
-use Rattle.room.specs.Room.{Room}
+use Rattle.room.specs.declared.Room.{Room}
 use Rattle.scheduler_state.specs.declared.Scheduler.{Scheduler}
 use Rattle.scheduler_state.specs.Counts.{waits_of}
 use Rattle.scheduler_state.specs.Pick.{pick}

@@ -7,7 +7,7 @@ use Rattle.rules.specs.Step.{Call, answers}
 use Rattle.rules.specs.History.{counted, last_instant}
 use Rattle.rules.specs.Account.{ExactlyOne}
 use Rattle.rules.specs.Printed.{tally_line}
-use Rattle.room.specs.Room.{Room}
+use Rattle.room.specs.declared.Room.{Room}
 use Rattle.room.specs.Held.{Sized}
 use Rattle.scheduler_state.specs.declared.Scheduler.{Scheduler}
 use Rattle.scheduler_answers.specs.Values.{tally_values}

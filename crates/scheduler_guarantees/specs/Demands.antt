@@ -10,7 +10,7 @@ use Rattle.rules.specs.Step.{Call, arrive, advance, after}
 use Rattle.rules.specs.History.{unmarked_alone, OnReference, reference_line}
 use Rattle.rules.specs.Demand.{NonePasses}
 use Rattle.rules.specs.Open as rules
-use Rattle.room.specs.Room.{Room}
+use Rattle.room.specs.declared.Room.{Room}
 use Rattle.room.specs.Held.{Sized}
 use Rattle.scheduler_state.specs.declared.Scheduler.{Scheduler}
 use Rattle.scheduler.specs.Calls.{open_of}

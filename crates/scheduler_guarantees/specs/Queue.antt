@@ -4,7 +4,8 @@ use Rattle.units.specs.declared.Settings.{Settings}
 use Rattle.rules.specs.Line.{Packet, Waiting, fresh, unmarked_of}
 use Rattle.rules.specs.Delay.{Follows, extra_first, extra_next}
 use Rattle.rules.specs.Step.{Call, after}
-use Rattle.room.specs.Room.{Room, number_at, difference_at}
+use Rattle.room.specs.declared.Room.{Room}
+use Rattle.room.specs.Room.{number_at, difference_at}
 use Rattle.room.specs.Held.{Sized}
 use Rattle.scheduler_guarantees.specs.Demands.{in_force, scheduler_by, room_by}
 

@@ -3,7 +3,8 @@ use mathlib.Core.Path.{◌≡◌}
 use Prim.Native.Nat.{ℕ, ◌+◌, ◌%◌, ◌<◌}
 use native.Mathlib.Omega.{arith}
 use lib.ListN.{get_or}
-use Rattle.room.specs.Room.{Room, kept_at, with_kept}
+use Rattle.room.specs.declared.Room.{Room}
+use Rattle.room.specs.Room.{kept_at, with_kept}
 use Rattle.room.specs.Held.{Sized}
 use Rattle.room.proofs.Words.{joined_back}
 use Rattle.room.proofs.Stored.{marking_back}

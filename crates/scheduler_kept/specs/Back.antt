@@ -1,6 +1,7 @@
 -- What is kept is given back. Assumes nothing.
 use Rattle.std.specs.Prelude.{◌≡◌, ◌<◌}
-use Rattle.room.specs.Room.{Room, with_kept}
+use Rattle.room.specs.declared.Room.{Room}
+use Rattle.room.specs.Room.{with_kept}
 use Rattle.room.specs.Held.{Sized}
 use Rattle.scheduler_state.specs.declared.Scheduler.{Scheduler}
 use Rattle.scheduler_kept.specs.Words.{scheduler_words, scheduler_in}

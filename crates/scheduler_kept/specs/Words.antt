@@ -2,8 +2,10 @@
 use Rattle.std.specs.Prelude.{List, [], ◌∷◌, ◌++◌, ℕ, ◌+◌, ◌%◌}
 use Rattle.units.specs.declared.Instant.{Instant}
 use Rattle.units.specs.declared.Settings.{Settings}
+use Rattle.units.specs.Codes.{code_of, marking_of}
 use Rattle.room.specs.Words.{low_of, high_of, joined_of}
-use Rattle.room.specs.Room.{Room, code_of, marking_of, kept_at}
+use Rattle.room.specs.declared.Room.{Room}
+use Rattle.room.specs.Room.{kept_at}
 use Rattle.scheduler_state.specs.declared.Line.{Line}
 use Rattle.scheduler_state.specs.declared.Extra.{Extra}
 use Rattle.scheduler_state.specs.declared.Tallies.{Tallies}

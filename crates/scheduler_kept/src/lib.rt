@@ -7,7 +7,7 @@ ghost use Rattle.scheduler_kept.specs.Words.{settings_words, line_words, extra_w
 
 use room::{Room, keep_long, kept_long};
 use scheduler_state::{Each, Extra, Line, Scheduler, Tallies};
-use units::{Instant, Settings, Ticks};
+use units::{Instant, Marking, Settings, Ticks};
 
 fn keep_settings(settings: Settings, room: &mut Room)
     ensures { room.new ≡ with_kept room.old 0 (settings_words settings) }
@@ -21,8 +21,7 @@ fn keep_line(clock: Instant, line: Line, room: &mut Room)
 {
     keep_long(clock.0, 3, room);
     keep_long(line.free.0, 5, room);
-    let last = line.last;
-    room::keep(room::code_of(last), 7, room);
+    room::keep(u32::from(line.last), 7, room);
 }
 
 fn keep_extra(extra: Extra, room: &mut Room)
@@ -74,7 +73,7 @@ fn line_in(room: &Room) -> Line
 {
     Line {
         free: Instant(kept_long(5, room)),
-        last: room::marking_of(room::kept(7, room)),
+        last: Marking::from(room::kept(7, room)),
     }
 }
 

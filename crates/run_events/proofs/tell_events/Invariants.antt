@@ -1,6 +1,6 @@
 -- The outer loop: all events of the blocks so far are played, and their lines told; the inner loop: from wherever that was so, it still is. Assumes nothing.
 use Rattle.std.proofs.Common.{◌≡◌, ◌-◌, ◌*◌, ◌≤◌, List, ℕ, min}
-use Rattle.room.specs.Room.{Room}
+use Rattle.room.specs.declared.Room.{Room}
 use Rattle.scheduler_state.specs.declared.Scheduler.{Scheduler}
 use Rattle.run_events.proofs.Tells.{SoFar}
 use Rattle.run_events.proofs.tell_events.Given as goal

@@ -4,4 +4,4 @@ use Rattle.scheduler_kept.proofs.keep_line.Goals as goal
 
 pub returns : goal.returns
 unfolding with_kept
-returns c = simp (c.keep.ensures, c.code_of.ensures, c.keep_long-2.ensures, c.keep_long.ensures)
+returns c = simp (c.keep.ensures, c.from.ensures, c.keep_long-2.ensures, c.keep_long.ensures)
