@@ -1,9 +1,10 @@
 -- What a host keeps in the room's own words, no call reads or changes; so scheduler and room come from an opening as before. Assumes nothing.
 use mathlib.Core.Path.{◌≡◌, refl, sym, ap, ◌∙◌}
-use mathlib.Core.Bool.{Bool, true, false}
 use mathlib.Core.List.{List, [], ◌∷◌}
+use mathlib.Core.Option.{Option, none, some}
 use Prim.Native.Nat.{ℕ}
-use lib.Dec.{eqb}
+use Rattle.refusals.specs.declared.Refusal.{Refusal}
+use Rattle.refusals.specs.First.{first_refusal}
 use Rattle.units.specs.declared.Instant.{Instant}
 use Rattle.units.specs.declared.Marking.TheVariants.{Unmarked, Marked}
 use Rattle.units.specs.declared.Marking.{Marking}
@@ -21,21 +22,18 @@ use Rattle.room.proofs.Keeping.{
 }
 use Rattle.scheduler_state.specs.declared.Scheduler.{Scheduler}
 use Rattle.scheduler_state.specs.Counts.{admissions_of}
-use Rattle.scheduler_state.specs.Pick.{pick, by_marking}
+use Rattle.scheduler_state.specs.Pick.{by_marking}
+use Rattle.scheduler_refusals.specs.Refusals.{advance_tests}
 use Rattle.scheduler_admission.specs.Admit.{admit_entry, admit_room}
 use Rattle.scheduler_decision.specs.Decide.{start_first, decide_of}
 use Rattle.scheduler_answers.specs.Packets.{packet_of}
-use Rattle.scheduler.specs.Calls.{open_of, arrival_refusal, arrive_of, arriving, arriving_room, arrive_room, advance_of}
+use Rattle.scheduler.specs.Calls.{open_of, arrival_refusal, arrive_of, arriving, arriving_room, arrive_room, advancing, advance_of}
 use Rattle.scheduler.specs.Machine.{bytes, instant, made, scheduler_after, room_after, FromOpening}
 use Rattle.scheduler.specs.Promises.{MayKeep}
 
 module _ (k : ℕ) (ws : List ℕ) where
   refusal-kept : (s : Scheduler) (r : Room) (p : Packet) → arrival_refusal s (with_kept r k ws) p ≡ arrival_refusal s r p
   refusal-kept s r p = simp (packet-past-kept r k ws)
-
-  pick-kept : (b : Bool) (x y : Room) → pick b (with_kept x k ws) (with_kept y k ws) ≡ with_kept (pick b x y) k ws
-  pick-kept true x y = refl
-  pick-kept false x y = refl
 
   entry_kept : (s : Scheduler) (r : Room) (p : Packet) → admit_entry s (with_kept r k ws) p ≡ with_kept (admit_entry s r p) k ws
   unfolding admit_entry
@@ -53,18 +51,26 @@ module _ (k : ℕ) (ws : List ℕ) where
 
   arrive-kept : (s : Scheduler) (r : Room) (p : Packet) → arrive_of s (with_kept r k ws) p ≡ arrive_of s r p
   unfolding arrive_of
-  arrive-kept s r p = ap (λ (n : ℕ). arriving n s p) (refusal-kept s r p)
+  arrive-kept s r p = ap (λ (o : Option Refusal). arriving o s p) (refusal-kept s r p)
+
+  arriving-kept : (o : Option Refusal) (s : Scheduler) (r : Room) (p : Packet)
+      → arriving_room o s (with_kept r k ws) p ≡ with_kept (arriving_room o s r p) k ws
+  arriving-kept none s r p = admit_kept s r p
+  arriving-kept (some n) s r p = refl
 
   room-kept : (s : Scheduler) (r : Room) (p : Packet) → arrive_room s (with_kept r k ws) p ≡ with_kept (arrive_room s r p) k ws
   unfolding arrive_room
   room-kept s r p =
-      ap (λ (n : ℕ). arriving_room n s (with_kept r k ws) p) (refusal-kept s r p)
-      ∙ (ap (λ (x : Room). pick (eqb (arrival_refusal s r p) 0) x (with_kept r k ws)) (admit_kept s r p)
-      ∙ pick-kept (eqb (arrival_refusal s r p) 0) (admit_room s r p) r)
+      ap (λ (o : Option Refusal). arriving_room o s (with_kept r k ws) p) (refusal-kept s r p) ∙ arriving-kept (arrival_refusal s r p) s r p
+
+  advancing-kept : (o : Option Refusal) (s : Scheduler) (r : Room) (at : Instant) → advancing o s (with_kept r k ws) at ≡ advancing o s r at
+  unfolding decide_of start_first
+  advancing-kept none s r at = simp (packet-past-kept r k ws, number-past-kept r k ws, difference_past_kept r k ws)
+  advancing-kept (some n) s r at = refl
 
   advance-kept : (s : Scheduler) (r : Room) (at : Instant) → advance_of s (with_kept r k ws) at ≡ advance_of s r at
-  unfolding advance_of decide_of start_first
-  advance-kept s r at = simp (packet-past-kept r k ws, number-past-kept r k ws, difference_past_kept r k ws)
+  unfolding advance_of
+  advance-kept s r at = advancing-kept (first_refusal (advance_tests s.clock at)) s r at
 
   scheduler-same : (s : Scheduler) (r : Room) (c : Call) → (made s (with_kept r k ws) c).scheduler ≡ (made s r c).scheduler
   scheduler-same s r (arrive μ len place t) = rw (arrive-kept s r (packet_of μ (bytes len) place (instant t)))

@@ -5,6 +5,8 @@ use mathlib.Core.Option.{none}
 use Prim.Native.Nat.{ℕ}
 use lib.Dec.{eqb}
 use lib.ListN.{get_or}
+use Rattle.std.specs.Prelude.{Option, Some, None, Result, Ok, Err}
+use Rattle.refusals.specs.declared.Refusal.{Refusal}
 use Rattle.units.specs.declared.Settings.{Settings}
 use Rattle.rules.specs.Terms.{Terms, terms_of}
 use Rattle.rules.specs.Line as rules
@@ -16,9 +18,8 @@ use Rattle.room.specs.declared.Packet.{Packet}
 use Rattle.room.specs.declared.Room.{Room}
 use Rattle.scheduler_state.specs.declared.Scheduler.{Scheduler}
 use Rattle.scheduler_state.specs.Pick.{pick}
-use Rattle.scheduler_answers.specs.declared.Admission.{Admission}
-use Rattle.scheduler_answers.specs.declared.Decision.{Decision}
-use Rattle.scheduler_answers.specs.declared.Outcome.{Outcome}
+use Rattle.scheduler_answers.specs.declared.Admitted.{Admitted}
+use Rattle.scheduler_answers.specs.declared.Start.{Start}
 use Rattle.scheduler_answers.specs.Values.{admission_values, admission_numbers, advance_values, advance_numbers}
 use Rattle.scheduler.specs.Calls.{open_of, arrive_of, advance_of}
 use Rattle.scheduler.specs.Machine.{made, FromOpening, terms_by, line_by}
@@ -42,15 +43,15 @@ rules_numbers (started s) = refl
 rules_numbers nothing_due = refl
 rules_numbers (refused n) = refl
 
-admission-numbers : (a : Admission) → admission_numbers a ≡ numbers_in (admission_values a)
-admission-numbers (Admission.Unmarked n e) = refl
-admission-numbers (Admission.Marked n) = refl
-admission-numbers (Admission.Refused c) = refl
+admission-numbers : (a : Result Admitted Refusal) → admission_numbers a ≡ numbers_in (admission_values a)
+admission-numbers (Ok (Admitted.Unmarked n e)) = refl
+admission-numbers (Ok (Admitted.Marked n)) = refl
+admission-numbers (Err r) = refl
 
-advance-numbers : (a : Outcome) → advance_numbers a ≡ numbers_in (advance_values a)
-advance-numbers (Outcome.Decided (Decision.Started x)) = refl
-advance-numbers (Outcome.Decided Decision.NothingDue) = refl
-advance-numbers (Outcome.Refused c) = refl
+advance-numbers : (a : Result (Option Start) Refusal) → advance_numbers a ≡ numbers_in (advance_values a)
+advance-numbers (Ok (Some x)) = refl
+advance-numbers (Ok None) = refl
+advance-numbers (Err r) = refl
 
 -- One call more at the end of a list, on the rules' line.
 line-more : (σ : Terms) (l : rules.Line) (cs : List Call) (c : Call) → after σ l (cs ++ c ∷ []) ≡ (step σ (after σ l cs) c).line

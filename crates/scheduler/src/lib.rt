@@ -6,9 +6,7 @@ ghost use Rattle.scheduler.specs.Machine.{FromOpening};
 ghost use Rattle.scheduler.specs.Promises.{Opens, Arrives, Advances};
 
 pub use room::{Packet, Room};
-pub use scheduler_answers::{
-    Admission, Advanced, Arrived, Decision, Opened, Opening, Outcome, Start,
-};
+pub use scheduler_answers::{Admitted, Advanced, Arrived, Opened, Start};
 use scheduler_state::Scheduler;
 use units::{Instant, Settings, Ticks};
 
@@ -16,20 +14,17 @@ use units::{Instant, Settings, Ticks};
 pub fn open(settings: Settings) -> Opened
     ensures { Opens settings result }
 {
-    let refusal = units::settings_refusal(settings);
-    if refusal == 0 {
-        return Opened {
-            answer: Opening::Ready,
-            scheduler: scheduler_state::fresh(settings),
-        };
-    }
-    let least = Settings {
-        alpha: Ticks(1),
-        ticks_per_byte: 1,
+    let answer = units::judge_settings(settings);
+    let in_force = match answer {
+        Ok(()) => settings,
+        Err(_) => Settings {
+            alpha: Ticks(1),
+            ticks_per_byte: 1,
+        },
     };
     Opened {
-        answer: Opening::Refused(refusal),
-        scheduler: scheduler_state::fresh(least),
+        answer,
+        scheduler: scheduler_state::fresh(in_force),
     }
 }
 
@@ -41,16 +36,16 @@ pub fn arrive(scheduler: Scheduler, packet: Packet, room: &mut Room) -> Arrived
     let rank = scheduler_state::gone(scheduler.tallies);
     let head = room::packet_at(rank, room);
     let marking = packet.marking;
-    let refusal = scheduler_refusals::arrival_refusal(
+    let judged = scheduler_refusals::judge_arrival(
         scheduler,
         head.arrival,
         marking,
         packet.length,
         packet.arrival,
     );
-    if refusal != 0 {
+    if let Err(refusal) = judged {
         return Arrived {
-            answer: Admission::Refused(refusal),
+            answer: Err(refusal),
             scheduler,
         };
     }
@@ -62,25 +57,24 @@ pub fn advance(scheduler: Scheduler, at: Instant, room: &Room) -> Advanced
     requires { FromOpening scheduler room.now }
     ensures { Advances scheduler room.now at result }
 {
-    let refused = scheduler_refusals::advance_refusal(scheduler.clock, at);
-    if refused != 0 {
+    if let Err(refusal) = scheduler_refusals::judge_advance(scheduler.clock, at) {
         return Advanced {
-            answer: Outcome::Refused(refused),
+            answer: Err(refusal),
             scheduler,
         };
     }
     if !scheduler_state::waits(scheduler.tallies) {
         return Advanced {
-            answer: Outcome::Decided(Decision::NothingDue),
+            answer: Ok(None),
             scheduler: scheduler_state::idle(scheduler, at),
         };
     }
     let rank = scheduler_state::gone(scheduler.tallies);
     let head = room::packet_at(rank, room);
     let due = scheduler_refusals::due(scheduler.line, head.arrival);
-    if at.0 < due.0 {
+    if at < due {
         return Advanced {
-            answer: Outcome::Decided(Decision::NothingDue),
+            answer: Ok(None),
             scheduler: scheduler_state::idle(scheduler, at),
         };
     }

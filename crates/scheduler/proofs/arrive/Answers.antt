@@ -6,20 +6,20 @@ use Rattle.scheduler.proofs.arrive.Goals as goal
 pub gone-rank-requires : goal.gone-rank-requires
 gone-rank-requires c = (small _ _ (stands _ _ c.requires)).counted
 
-pub arrival_refusal-refusal-requires : goal.arrival_refusal-refusal-requires
-arrival_refusal-refusal-requires c = (small _ _ (stands _ _ c.requires)).counted
+pub judge_arrival-judged-requires : goal.judge_arrival-judged-requires
+judge_arrival-judged-requires c = (small _ _ (stands _ _ c.requires)).counted
 
-pub returns-then-refusal-ne0 : goal.returns-then-refusal-ne0
-returns-then-refusal-ne0 c =
+pub returns-in-Err : goal.returns-in-Err
+returns-in-Err c =
     arrive-refuses c.args.scheduler _ c.args.packet c.requires _
     (record {
       rank = c.gone-rank.result;
       head = c.packet_at-head.result;
       gone = c.gone-rank.ensures;
       there = c.packet_at-head.ensures;
-      refusal = c.arrival_refusal-refusal.ensures;
+      judged = c.judge_arrival-judged.ensures;
     })
-    c.if-refusal-ne0.true
+    _ c.in-Err.is
 
 pub admit-requires : goal.admit-requires
 admit-requires c =
@@ -29,9 +29,9 @@ admit-requires c =
       head = c.packet_at-head.result;
       gone = c.gone-rank.ensures;
       there = c.packet_at-head.ensures;
-      refusal = c.arrival_refusal-refusal.ensures;
+      judged = c.judge_arrival-judged.ensures;
     })
-    c.if-refusal-ne0.false
+    c.in_default.is
 
 pub returns : goal.returns
 returns c =
@@ -41,6 +41,6 @@ returns c =
       head = c.packet_at-head.result;
       gone = c.gone-rank.ensures;
       there = c.packet_at-head.ensures;
-      refusal = c.arrival_refusal-refusal.ensures;
+      judged = c.judge_arrival-judged.ensures;
     })
-    c.admit.result _ c.if-refusal-ne0.false c.admit.ensures.value c.admit.ensures.left
+    c.admit.result _ c.in_default.is c.admit.ensures.value c.admit.ensures.left
