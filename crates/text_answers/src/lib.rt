@@ -2,40 +2,42 @@
 #![tactic(auto)]
 
 ghost use Rattle.std.specs.Prelude.{[], ◌∷◌, ◌^◌, ◌<◌};
+ghost use Rattle.refusals.specs.Numbers.{number};
 ghost use Rattle.text.specs.Text.{values_text};
 ghost use Rattle.text_lines.specs.Told.{Told};
 ghost use Rattle.scheduler_answers.specs.Values.{admission_values, decision_values, advance_values, tally_values};
 
-use scheduler_answers::{Admission, Decision, Outcome};
+use refusals::Refusal;
+use scheduler_answers::{Admitted, Start};
 use scheduler_state::Tallies;
 use text_lines::{tell_five, tell_four, tell_none, tell_one, tell_three, tell_two};
 
 // R c: a refusal.
-fn tell_refused(out: &mut [u8], at: usize, number: u8) -> usize
+fn tell_refused(out: &mut [u8], at: usize, refusal: Refusal) -> usize
     requires { at < 2 ^ 32 }
-    ensures { Told out.old at (values_text (82 ∷ number ∷ [])) out.new result }
+    ensures { Told out.old at (values_text (82 ∷ number refusal ∷ [])) out.new result }
 {
-    tell_one(out, at, b'R', number as u64)
+    tell_one(out, at, b'R', refusal as u64)
 }
 
 // A n e or M n: an admission.
-pub fn tell_admission(out: &mut [u8], at: usize, answer: Admission) -> usize
+pub fn tell_admission(out: &mut [u8], at: usize, answer: Result<Admitted, Refusal>) -> usize
     requires { at < 2 ^ 32 }
     ensures { Told out.old at (values_text (admission_values answer)) out.new result }
 {
     match answer {
-        Admission::Unmarked { number, extra } => tell_two(out, at, b'A', number as u64, extra.0),
-        Admission::Marked { number } => tell_one(out, at, b'M', number as u64),
-        Admission::Refused(number) => tell_refused(out, at, number),
+        Ok(Admitted::Unmarked { number, extra }) => tell_two(out, at, b'A', number as u64, extra.0),
+        Ok(Admitted::Marked { number }) => tell_one(out, at, b'M', number as u64),
+        Err(refusal) => tell_refused(out, at, refusal),
     }
 }
 
 // S n t e k: a start; N otherwise.
-fn tell_decision(out: &mut [u8], at: usize, answer: Decision) -> usize
+fn tell_decision(out: &mut [u8], at: usize, answer: Option<Start>) -> usize
     requires { at < 2 ^ 32 }
     ensures { Told out.old at (values_text (decision_values answer)) out.new result }
 {
-    let Decision::Started(start) = answer else {
+    let Some(start) = answer else {
         return tell_none(out, at, b'N');
     };
     tell_four(
@@ -50,13 +52,13 @@ fn tell_decision(out: &mut [u8], at: usize, answer: Decision) -> usize
 }
 
 // The line of an advance.
-pub fn tell_advance(out: &mut [u8], at: usize, answer: Outcome) -> usize
+pub fn tell_advance(out: &mut [u8], at: usize, answer: Result<Option<Start>, Refusal>) -> usize
     requires { at < 2 ^ 32 }
     ensures { Told out.old at (values_text (advance_values answer)) out.new result }
 {
     match answer {
-        Outcome::Decided(d) => tell_decision(out, at, d),
-        Outcome::Refused(number) => tell_refused(out, at, number),
+        Ok(decision) => tell_decision(out, at, decision),
+        Err(refusal) => tell_refused(out, at, refusal),
     }
 }
 
@@ -78,9 +80,16 @@ pub fn tell_tallies(out: &mut [u8], at: usize, t: Tallies) -> usize
 }
 
 // X c b r: a refused image.
-pub fn tell_refused_image(out: &mut [u8], at: usize, number: u8, block: u32, index: u32) -> usize
+pub fn tell_refused_image(
+    out: &mut [u8],
+    at: usize,
+    refusal: Refusal,
+    block: u32,
+    index: u32,
+) -> usize
     requires { at < 2 ^ 32 }
-    ensures { Told out.old at (values_text (88 ∷ number ∷ block ∷ index ∷ [])) out.new result }
+    ensures { Told out.old at (values_text (88 ∷ number refusal ∷ block ∷ index ∷ [])) out.new result }
 {
+    let number = u8::from(refusal);
     tell_three(out, at, b'X', number as u64, block as u64, index as u64)
 }
