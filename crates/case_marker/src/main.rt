@@ -2,39 +2,36 @@
 // M marked, R and the number of a refusal.
 #![tactic(auto)]
 
-ghost use Rattle.std.specs.Prelude.{◌≡◌, length};
+use marker::{Flow, Flows};
+use refusals::Refusal;
+use std::{fmt, io};
+use units::{Bytes, INSTANT_MOST, Instant, Marking};
 
-use marker::{Answer, Flow, Flows, Opening};
-use std::io;
-use units::{Bytes, Instant};
+// The answer to a packet, as it is printed.
+#[derive(Clone, Copy)]
+struct Answer(Result<Marking, Refusal>);
 
-fn print_opening(rt: &impl Print, answer: Opening) -> io::Result<()> {
-    match answer {
-        Opening::Ready => println!(rt; "O 0"),
-        Opening::Refused(number) => println!(rt; "O {number}"),
+impl fmt::Display for Answer {
+    fn fmt<W: fmt::Write>(&self, f: &mut fmt::Formatter<W>) -> fmt::Result {
+        match self.0 {
+            Ok(Marking::Unmarked) => write!(f, "U"),
+            Ok(Marking::Marked) => write!(f, "M"),
+            Err(refusal) => write!(f, "R {}", u8::from(refusal)),
+        }
     }
 }
 
-fn print_answer(rt: &impl Print, answer: Answer) -> io::Result<()> {
-    match answer {
-        Answer::Unmarked => println!(rt; "U"),
-        Answer::Marked => println!(rt; "M"),
-        Answer::Refused(number) => println!(rt; "R {number}"),
-    }
-}
+// A packet: its flow, its length and its instant.
+type Packet = (u32, Bytes, Instant);
 
-// The packets of a table on a marker with so many of these two flows.
+// These packets on a marker with so many of these two flows.
 fn play(
     rt: &impl Print,
     count: u32,
     first: Flow,
     second: Flow,
-    flows: &[u32],
-    lengths: &[u32],
-    instants: &[u64],
-) -> io::Result<()>
-    requires { (length lengths.now ≡ length flows.now) × (length instants.now ≡ length flows.now) }
-{
+    packets: &[Packet],
+) -> io::Result<()> {
     let asked = Flows {
         count,
         each: [
@@ -42,137 +39,86 @@ fn play(
         ],
     };
     let mut marker = marker::empty();
-    let opening = marker::open(asked, &mut marker);
-    print_opening(rt, opening)?;
-    let mut i: usize = 0;
-    while i < flows.len() {
-        let answer = marker::mark(
-            flows[i],
-            Bytes(lengths[i]),
-            Instant(instants[i]),
-            &mut marker,
-        );
-        print_answer(rt, answer)?;
-        i += 1;
+    let number = match marker::open(asked, &mut marker) {
+        Ok(()) => 0,
+        Err(refusal) => u8::from(refusal),
+    };
+    println!(rt; "O {number}")?;
+    for (flow, length, at) in packets {
+        let answer = marker::mark(*flow, *length, *at, &mut marker);
+        println!(rt; "{}", Answer(answer))?;
     }
     Ok(())
 }
 
-const LATEST: u64 = 1_000_000_000_000_000;
-
 // All of flow 0, then a byte: before any flowed in, a millionth short of a byte, and at just a byte.
-const EXACT_FLOWS: [u32; 5] = [0, 0, 0, 0, 0];
-
-const EXACT_LENGTHS: [u32; 5] = [100, 1, 1, 1, 1];
-
-const EXACT_INSTANTS: [u64; 5] = [0, 1, 2, 999_999, 1_000_000];
+const EXACT: [Packet; 5] = [
+    (0, Bytes(100), Instant(0)),
+    (0, Bytes(1), Instant(1)),
+    (0, Bytes(1), Instant(2)),
+    (0, Bytes(1), Instant(999_999)),
+    (0, Bytes(1), Instant(1_000_000)),
+];
 
 // The longest packet, again after the longest span, and a byte more.
-const SPAN_FLOWS: [u32; 3] = [0, 0, 0];
-
-const SPAN_LENGTHS: [u32; 3] = [2_048, 2_048, 1];
-
-const SPAN_INSTANTS: [u64; 3] = [0, LATEST, LATEST];
+const SPAN: [Packet; 3] = [
+    (0, Bytes(2_048), Instant(0)),
+    (0, Bytes(2_048), Instant(INSTANT_MOST)),
+    (0, Bytes(1), Instant(INSTANT_MOST)),
+];
 
 // Longer than the depth of 1, at it, and once more.
-const DEPTH_FLOWS: [u32; 3] = [0, 0, 0];
-
-const DEPTH_LENGTHS: [u32; 3] = [2, 1, 1];
-
-const DEPTH_INSTANTS: [u64; 3] = [0, 0, 0];
+const DEPTH: [Packet; 3] = [
+    (0, Bytes(2), Instant(0)),
+    (0, Bytes(1), Instant(0)),
+    (0, Bytes(1), Instant(0)),
+];
 
 // A packet at 10; 51 though the length and the instant are wrong too; 1 though the instant is; 1 though it is before the clock; 2; 3; and the
 // whole depth of flow 0, which none of them took from.
-const REFUSED_FLOWS: [u32; 7] = [1, 2, 0, 0, 0, 0, 0];
-
-const REFUSED_LENGTHS: [u32; 7] = [1, 0, 0, 2_049, 100, 100, 100];
-
-const REFUSED_INSTANTS: [u64; 7] = [10, LATEST + 1, LATEST + 1, 9, LATEST + 1, 9, 10];
+const REFUSED: [Packet; 7] = [
+    (1, Bytes(1), Instant(10)),
+    (2, Bytes(0), Instant(INSTANT_MOST + 1)),
+    (0, Bytes(0), Instant(INSTANT_MOST + 1)),
+    (0, Bytes(2_049), Instant(9)),
+    (0, Bytes(100), Instant(INSTANT_MOST + 1)),
+    (0, Bytes(100), Instant(9)),
+    (0, Bytes(100), Instant(10)),
+];
 
 // What a refused opening opens: one flow with rate 1 and depth 1; with eight of the most all go through.
-const LEAST_FLOWS: [u32; 4] = [0, 0, 0, 1];
-
-const LEAST_LENGTHS: [u32; 4] = [1, 1, 1, 1];
-
-const LEAST_INSTANTS: [u64; 4] = [0, 999_999, 1_000_000, 1_000_000];
+const LEAST: [Packet; 4] = [
+    (0, Bytes(1), Instant(0)),
+    (0, Bytes(1), Instant(999_999)),
+    (0, Bytes(1), Instant(1_000_000)),
+    (1, Bytes(1), Instant(1_000_000)),
+];
 
 fn flow(rate: u32, depth: u32) -> Flow {
     Flow { rate, depth }
 }
 
-fn play_least(rt: &impl Print, count: u32, first: Flow, second: Flow) -> io::Result<()> {
-    play(
-        rt,
-        count,
-        first,
-        second,
-        &LEAST_FLOWS,
-        &LEAST_LENGTHS,
-        &LEAST_INSTANTS,
-    )
-}
-
 fn play_limits(rt: &impl Print) -> io::Result<()> {
     let slow = flow(1, 100);
     let most = flow(10_000_000, 65_535);
-    play_least(rt, 8, most, most)?;
-    play_least(rt, 0, slow, slow)?;
-    play_least(rt, 9, flow(0, 0), flow(0, 0))?;
-    play_least(rt, 2, flow(1, 0), flow(0, 1))?;
-    play_least(rt, 1, flow(10_000_001, 1), slow)?;
-    play_least(rt, 2, slow, flow(1, 0))?;
-    play_least(rt, 1, flow(1, 65_536), slow)
+    play(rt, 8, most, most, &LEAST)?;
+    play(rt, 0, slow, slow, &LEAST)?;
+    play(rt, 9, flow(0, 0), flow(0, 0), &LEAST)?;
+    play(rt, 2, flow(1, 0), flow(0, 1), &LEAST)?;
+    play(rt, 1, flow(10_000_001, 1), slow, &LEAST)?;
+    play(rt, 2, slow, flow(1, 0), &LEAST)?;
+    play(rt, 1, flow(1, 65_536), slow, &LEAST)
 }
 
 fn main(rt: HostRuntime) -> io::Result<()> {
     let slow = flow(1, 100);
-    play(
-        &rt,
-        1,
-        slow,
-        slow,
-        &EXACT_FLOWS,
-        &EXACT_LENGTHS,
-        &EXACT_INSTANTS,
-    )?;
+    play(&rt, 1, slow, slow, &EXACT)?;
     let slowest = flow(1, 2_048);
-    play(
-        &rt,
-        1,
-        slowest,
-        slowest,
-        &SPAN_FLOWS,
-        &SPAN_LENGTHS,
-        &SPAN_INSTANTS,
-    )?;
+    play(&rt, 1, slowest, slowest, &SPAN)?;
     let fastest = flow(10_000_000, 2_048);
-    play(
-        &rt,
-        1,
-        fastest,
-        fastest,
-        &SPAN_FLOWS,
-        &SPAN_LENGTHS,
-        &SPAN_INSTANTS,
-    )?;
+    play(&rt, 1, fastest, fastest, &SPAN)?;
     let least = flow(1, 1);
-    play(
-        &rt,
-        1,
-        least,
-        least,
-        &DEPTH_FLOWS,
-        &DEPTH_LENGTHS,
-        &DEPTH_INSTANTS,
-    )?;
-    play(
-        &rt,
-        2,
-        slow,
-        slow,
-        &REFUSED_FLOWS,
-        &REFUSED_LENGTHS,
-        &REFUSED_INSTANTS,
-    )?;
+    play(&rt, 1, least, least, &DEPTH)?;
+    play(&rt, 2, slow, slow, &REFUSED)?;
     play_limits(&rt)
 }

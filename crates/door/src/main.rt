@@ -1,16 +1,17 @@
 // How a Rattle host uses the marker: it opens one, lends it words, and asks about each packet of a camera burst.
 #![tactic(auto)]
 
-use marker::{Answer, Flow, Flows, Opening};
+use marker::{Flow, Flows};
+use refusals::Refusal;
 use std::io;
-use units::{Bytes, Instant};
+use units::{Bytes, Instant, Marking};
 
 // Says how a packet goes on to the scheduler.
-fn tell(rt: &impl Print, answer: Answer) -> io::Result<()> {
+fn tell(rt: &impl Print, answer: Result<Marking, Refusal>) -> io::Result<()> {
     match answer {
-        Answer::Unmarked => println!(rt; "unmarked"),
-        Answer::Marked => println!(rt; "marked"),
-        Answer::Refused(number) => println!(rt; "refused with {number}"),
+        Ok(Marking::Unmarked) => println!(rt; "unmarked"),
+        Ok(Marking::Marked) => println!(rt; "marked"),
+        Err(refusal) => println!(rt; "refused with {}", u8::from(refusal)),
     }
 }
 
@@ -26,7 +27,7 @@ fn main(rt: HostRuntime) -> io::Result<()> {
     };
     let mut marker = marker::empty();
     let opened = marker::open(asked, &mut marker);
-    let Opening::Ready = opened else {
+    let Ok(()) = opened else {
         return Ok(());
     };
     // 40 of 60 bytes are taken; 39.9 are there at 199, and 40 at 200.

@@ -2,20 +2,18 @@
 use mathlib.Core.Path.{◌≡◌, refl, subst⁻¹}
 use mathlib.Core.List.{List, [], ◌∷◌}
 use mathlib.Core.Option.{Option, none, some}
-use Prim.Native.Nat.{ℕ, ◌≤◌}
-use native.Mathlib.Omega.{arith}
+use Prim.Native.Nat.{◌≤◌}
 use lib.ListN.{length}
-use borrow.Author.Tests.{ne_eqb}
-use Rattle.refusals.specs.First.{first_refusal, number_of}
-use Rattle.refusals.proofs.Laws.{some_number}
+use Rattle.refusals.specs.declared.Refusal.{Refusal}
+use Rattle.refusals.specs.First.{first_refusal}
 use Rattle.marker_flows.specs.declared.Flow.{Flow}
 use Rattle.marker_flows.specs.declared.Flows.{Flows}
-use Rattle.marker_flows.specs.Flows.{flows_most, open_tests, flows_of}
+use Rattle.marker_flows.specs.Flows.{flows_most, open_tests, least_flow, flows_of}
 use Rattle.marker_rules.specs.Terms.{Terms, terms_of}
 use Rattle.marker_rules.specs.Step.{Call, Marker, fresh, step, after}
 use Rattle.marker_rules.specs.Told.{told}
 use Rattle.marker_rules.specs.Open.{opened}
-use Rattle.marker_rules.proofs.Opens.{numbered, opens-sound}
+use Rattle.marker_rules.proofs.Opens.{opens-sound}
 use Rattle.marker_rules.proofs.Turns.{lasting-fresh, lasting-step, lasting-after}
 use Rattle.marker.specs.Words.{Words, Sized}
 use Rattle.marker.specs.Calls.{opening_words, open_words, mark_words}
@@ -26,9 +24,9 @@ use Rattle.marker.proofs.Laid.{stands-laid}
 use Rattle.marker.proofs.Marked.{Fit, agrees}
 
 -- The terms in force are of some flows, whether those asked for or the least.
-terms-by : (ws : List Flow) (o : Option ℕ) → (opened o ws).terms ≡ terms_of (opened o ws).terms.flows
+terms-by : (ws : List Flow) (o : Option Refusal) → (opened o ws).terms ≡ terms_of (opened o ws).terms.flows
 terms-by ws none = refl
-terms-by ws (some n) = refl
+terms-by ws (some r) = refl
 
 fit-fresh : (asked : Flows) → Fit (in_force asked) (fresh (in_force asked))
 fit-fresh asked =
@@ -47,18 +45,16 @@ fit-after asked cs =
     record { terms = k.terms; range = k.range; lasting = λ f. lasting-after (in_force asked) f (fresh (in_force asked)) cs (k.lasting f) }
 
 -- An opening's words stand for the fresh marker.
-opened-by : (asked : Flows) (lent : Words) (o : Option ℕ) → first_refusal (open_tests (flows_of asked)) ≡ o → Sized lent
+opened-by : (asked : Flows) (lent : Words) (o : Option Refusal) → Sized lent
     → length (opened o (flows_of asked)).terms.flows ≤ flows_most
-    → Stands (opened o (flows_of asked)).terms (opening_words (number_of o) asked lent) (fresh (opened o (flows_of asked)).terms)
-opened-by asked lent none e z h = stands-laid lent (flows_of asked) z h
-opened-by asked lent (some n) e z h =
-    let some = some_number (open_tests (flows_of asked)) n (numbered (flows_of asked)) e in
-    rw (ne_eqb n 0 (λ z. omega arith)) (stands-laid lent _ z h)
+    → Stands (opened o (flows_of asked)).terms (opening_words o asked lent) (fresh (opened o (flows_of asked)).terms)
+opened-by asked lent none z h = stands-laid lent (flows_of asked) z h
+opened-by asked lent (some r) z h = stands-laid lent (least_flow ∷ []) z h
 
 stands-opened : (asked : Flows) (lent : Words) → Sized lent → Stands (in_force asked) (open_words asked lent) (fresh (in_force asked))
 unfolding open_words
 stands-opened asked lent z =
-    opened-by asked lent (first_refusal (open_tests (flows_of asked))) refl z (opens-sound (flows_of asked)).0.most
+    opened-by asked lent (first_refusal (open_tests (flows_of asked))) z (opens-sound (flows_of asked)).0.most
 
 -- From any words that stand for a marker.
 module _ (σ : Terms) where

@@ -1,14 +1,15 @@
 -- What each call gives, and what it leaves in the words: exactly, for accepted and refused calls alike. Assumes nothing.
-use Rattle.std.specs.Prelude.{Bool, cond, List, [], ◌∷◌, ℕ, suc, ◌+◌, ◌*◌, ◌-◌, leb, eqb, length, set}
-use Rattle.refusals.specs.First.{first_refusal, number_of}
+use Rattle.std.specs.Prelude.{Bool, true, false, cond, List, [], ◌∷◌, ℕ, suc, ◌+◌, ◌*◌, ◌-◌, leb, length, set, Result}
+use Rattle.std.proofs.Math.Option.{Option, none, some}
+use Rattle.refusals.specs.declared.Refusal.{Refusal}
+use Rattle.refusals.specs.First.{first_refusal, answer_by}
+use Rattle.units.specs.declared.Marking.{Marking}
 use Rattle.units.specs.Limits.{length_most, instant_most}
 use Rattle.marker_flows.specs.declared.Flow.{Flow}
 use Rattle.marker_flows.specs.declared.Flows.{Flows}
 use Rattle.marker_flows.specs.Flows.{open_tests, least_flow, flows_of}
 use Rattle.marker_rules.specs.Bucket.{million, top_of, filled_to}
 use Rattle.marker_rules.specs.Step.{Call, packet_tests}
-use Rattle.marker.specs.declared.Opening.{Opening}
-use Rattle.marker.specs.declared.Answer.{Answer}
 use Rattle.marker.specs.Words.{Words, clock_in, count_in, rate_in, top_in, held_in, looked_in, holding}
 
 -- OPEN. A flow's words, with a full bucket that was looked at at 0.
@@ -24,21 +25,18 @@ laid w i (x ∷ xs) = laid (laid_one w i x) (suc i) xs
 abbrev pub laid_all : Words → List Flow → Words
 laid_all w xs = laid (set (set w 0 0) 1 (length xs)) 0 xs
 
--- The refusal number of an opening, 0 if none.
-abbrev pub open_refusal : Flows → ℕ
-open_refusal asked = number_of (first_refusal (open_tests (flows_of asked)))
-
--- The answer by that number.
-abbrev pub opening : (refusal : ℕ) → Opening
-opening n = cond (eqb n 0) Opening.Ready (Opening.Refused n)
+-- The refusal of an opening, if there is one.
+abbrev pub open_refusal : Flows → Option Refusal
+open_refusal asked = first_refusal (open_tests (flows_of asked))
 
 -- An opening: the answer.
-abbrev pub open_of : Flows → Opening
-open_of asked = opening (open_refusal asked)
+abbrev pub open_of : Flows → Result (Unit {0}) Refusal
+open_of asked = answer_by (open_refusal asked) tt
 
--- The words by that number: for the flows asked for, or for one at its least where they are refused.
-abbrev pub opening_words : (refusal : ℕ) → Flows → Words → Words
-opening_words n asked w = cond (eqb n 0) (laid_all w (flows_of asked)) (laid_all w (least_flow ∷ []))
+-- The words by that refusal: for the flows asked for, or for one at its least where they are refused.
+abbrev pub opening_words : Option Refusal → Flows → Words → Words
+opening_words none asked w = laid_all w (flows_of asked)
+opening_words (some r) asked w = laid_all w (least_flow ∷ [])
 
 -- An opening: the words at exit.
 unfoldable pub open_words : Flows → Words → Words
@@ -48,9 +46,9 @@ open_words asked w = opening_words (open_refusal asked) asked w
 abbrev pub call_of : (flow len at : ℕ) → Call
 call_of flow len at = record { flow = flow; len = len; at = at }
 
--- Its refusal number, 0 if none.
-abbrev pub refusal_in : Words → Call → ℕ
-refusal_in w c = number_of (first_refusal (packet_tests (count_in w) length_most instant_most (clock_in w) c))
+-- Its refusal, if there is one.
+abbrev pub refusal_in : Words → Call → Option Refusal
+refusal_in w c = first_refusal (packet_tests (count_in w) length_most instant_most (clock_in w) c)
 
 -- What flow f's bucket holds at t.
 abbrev pub level_in : Words → (f t : ℕ) → ℕ
@@ -64,18 +62,19 @@ holds_in w c = leb (million * c.len) (level_in w c.flow c.at)
 abbrev pub held_then : (unmarked : Bool) → (level len : ℕ) → ℕ
 held_then unmarked level len = cond unmarked (level - million * len) level
 
--- The answer by the refusal number and by whether the bucket holds it.
-abbrev pub marking : (refusal : ℕ) → (unmarked : Bool) → Answer
-marking n unmarked = cond (eqb n 0) (cond unmarked Answer.Unmarked Answer.Marked) (Answer.Refused n)
+-- The marking by whether the bucket holds it.
+abbrev pub marking : (unmarked : Bool) → Marking
+marking true = Marking.Unmarked
+marking false = Marking.Marked
 
 -- A packet: the answer.
-unfoldable pub mark_of : Words → Call → Answer
-mark_of w c = marking (refusal_in w c) (holds_in w c)
+unfoldable pub mark_of : Words → Call → Result Marking Refusal
+mark_of w c = answer_by (refusal_in w c) (marking (holds_in w c))
 
 -- Every refusal leaves the words as they were.
-abbrev pub marking_words : (refusal : ℕ) → (unmarked : Bool) → Words → Call → Words
-marking_words n unmarked w c =
-    cond (eqb n 0) (holding w c.flow (held_then unmarked (level_in w c.flow c.at) c.len) c.at) w
+abbrev pub marking_words : Option Refusal → (unmarked : Bool) → Words → Call → Words
+marking_words none unmarked w c = holding w c.flow (held_then unmarked (level_in w c.flow c.at) c.len) c.at
+marking_words (some r) unmarked w c = w
 
 -- A packet: the words at exit.
 unfoldable pub mark_words : Words → Call → Words

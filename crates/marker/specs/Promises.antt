@@ -1,13 +1,13 @@
 -- The promises of the two calls: the exact value, and what it is by the rules; and that each leaves one possible answer and one content of the
 -- words. Assumes nothing.
-use Rattle.std.specs.Prelude.{◌≡◌, List, ℕ}
+use Rattle.std.specs.Prelude.{◌≡◌, List, Result, Err}
+use Rattle.refusals.specs.declared.Refusal.{Refusal}
+use Rattle.units.specs.declared.Marking.{Marking}
 use Rattle.marker_flows.specs.declared.Flows.{Flows}
 use Rattle.marker_flows.specs.Flows.{flows_of}
 use Rattle.marker_rules.specs.Step.{Call, step}
 use Rattle.marker_rules.specs.Numbers.{numbers_of}
 use Rattle.marker_rules.specs.Open as rules
-use Rattle.marker.specs.declared.Opening.{Opening}
-use Rattle.marker.specs.declared.Answer.{Answer}
 use Rattle.marker.specs.Words.{Words, Sized}
 use Rattle.marker.specs.Calls.{open_of, open_words, mark_of, mark_words}
 use Rattle.marker.specs.Values.{opening_number, answer_read, answer_values}
@@ -15,7 +15,7 @@ use Rattle.marker.specs.Machine.{words_after, FromOpening, terms_by, marker_by}
 
 -- OPEN. `left` are the words at exit: whatever stood there before, they come from an opening, and stand for the rules' fresh marker under the
 -- terms that the rules put in force.
-pub record Opens (asked : Flows) (before : Words) (r : Opening) (left : Words) : Type 0 where
+pub record Opens (asked : Flows) (before : Words) (r : Result (Unit {0}) Refusal) (left : Words) : Type 0 where
   pub value : r ≡ open_of asked
   pub words : left ≡ open_words asked before
   pub number : opening_number r ≡ (rules.opening (flows_of asked)).number
@@ -25,7 +25,7 @@ pub record Opens (asked : Flows) (before : Words) (r : Opening) (left : Words) :
 
 -- One call by the rules, on the marker that the words stand for: the answer and its numbers are the rules', and what is left comes from an
 -- opening too, under the same terms, and stands for the rules' next marker.
-pub record Steps {w : Words} (o : FromOpening w) (c : Call) (r : Answer) (left : Words) : Type 0 where
+pub record Steps {w : Words} (o : FromOpening w) (c : Call) (r : Result Marking Refusal) (left : Words) : Type 0 where
   pub answer : answer_read r ≡ (step (terms_by o) (marker_by o) c).answer
   pub numbers : answer_values r ≡ numbers_of (step (terms_by o) (marker_by o) c).answer
   pub next : FromOpening left
@@ -33,12 +33,12 @@ pub record Steps {w : Words} (o : FromOpening w) (c : Call) (r : Answer) (left :
   pub stands : marker_by next ≡ (step (terms_by o) (marker_by o) c).marker
 
 -- MARK. A refused packet leaves every word as it was.
-pub record Marks (w : Words) (c : Call) (r : Answer) (left : Words) : Type 0 where
+pub record Marks (w : Words) (c : Call) (r : Result Marking Refusal) (left : Words) : Type 0 where
   pub value : r ≡ mark_of w c
   pub words : left ≡ mark_words w c
   pub kept : FromOpening left
   pub steps : (o : FromOpening w) → Steps o c r left
-  pub refusal : (n : ℕ) → r ≡ Answer.Refused n → left ≡ w
+  pub refusal : (e : Refusal) → r ≡ Err e → left ≡ w
 
 -- Every list of calls from an opening has the premise.
 abbrev pub EveryList : Type 0
@@ -47,14 +47,14 @@ EveryList = (asked : Flows) (lent : Words) → Sized lent → (cs : List Call) �
 -- Two answers that a promise allows are equal, and so are two contents of the words.
 abbrev pub OneOpening : Type 0
 OneOpening =
-    (asked : Flows) (before : Words) (r q : Opening) (left other : Words)
+    (asked : Flows) (before : Words) (r q : Result (Unit {0}) Refusal) (left other : Words)
     → Opens asked before r left
     → Opens asked before q other
     → (r ≡ q) × (left ≡ other)
 
 abbrev pub OneMarking : Type 0
 OneMarking =
-    (w : Words) (c : Call) (r q : Answer) (left other : Words)
+    (w : Words) (c : Call) (r q : Result Marking Refusal) (left other : Words)
     → Marks w c r left
     → Marks w c q other
     → (r ≡ q) × (left ≡ other)

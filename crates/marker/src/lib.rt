@@ -2,21 +2,20 @@
 // whole length. It passes on the types of an opening's flows.
 #![tactic(auto)]
 
-ghost use Rattle.std.specs.Prelude.{◌≡◌, ◌≤◌, ◌<◌};
-ghost use Rattle.refusals.specs.First.{first_refusal, number_of};
-ghost use Rattle.units.specs.Limits.{length_most, instant_most};
-ghost use Rattle.marker_flows.specs.Flows.{flows_most, flows_of};
-ghost use Rattle.marker_rules.specs.Step.{packet_tests};
+ghost use Rattle.std.specs.Prelude.{◌≡◌, ◌≤◌, ◌<◌, length};
+ghost use Rattle.refusals.specs.First.{answer_by};
+ghost use Rattle.marker_flows.specs.Flows.{flows_most};
 ghost use Rattle.marker.specs.Words.{Empty, holding};
 ghost use Rattle.marker.specs.Lookable.{Lookable};
-ghost use Rattle.marker.specs.Calls.{call_of, level_in, laid_one, laid_all};
+ghost use Rattle.marker.specs.Calls.{laid_one, laid_all, call_of, refusal_in, level_in};
 ghost use Rattle.marker.specs.Machine.{FromOpening};
 ghost use Rattle.marker.specs.Promises.{Opens, Marks};
 
 use marker_bucket::MILLION;
 use marker_flows::FLOWS_MOST;
 pub use marker_flows::{Flow, Flows};
-use units::{Bytes, Instant, Ticks};
+use refusals::Refusal;
+use units::{Bytes, Instant, Marking, Ticks};
 
 // The instant of the last accepted call, and how many flows were opened.
 const CLOCK: usize = 0;
@@ -46,21 +45,6 @@ pub fn empty() -> Marker
     [0u64; WORDS]
 }
 
-// The answer to an opening. A refusal bears the request's number, here and below.
-#[derive(Clone, Copy)]
-pub enum Opening {
-    Ready,
-    Refused(u8),
-}
-
-// The answer to a packet.
-#[derive(Clone, Copy)]
-pub enum Answer {
-    Unmarked,
-    Marked,
-    Refused(u8),
-}
-
 // A flow's words, with a full bucket.
 #[tactic(auto, unfolding(crate::specs::Calls::laid_one))]
 fn lay_one(f: usize, flow: Flow, marker: &mut Marker)
@@ -75,57 +59,47 @@ fn lay_one(f: usize, flow: Flow, marker: &mut Marker)
 }
 
 // The words of these flows. Those of flows that are not opened stay as they were, and no call reads them.
-fn lay(flows: Flows, marker: &mut Marker)
-    requires { flows.count ≤ flows_most }
-    ensures { marker.new ≡ laid_all marker.old (flows_of flows) }
+fn lay(flows: &[Flow], marker: &mut Marker)
+    requires { length flows.now ≤ flows_most }
+    ensures { marker.new ≡ laid_all marker.old flows.now }
 {
     marker[CLOCK] = 0;
-    marker[COUNT] = flows.count as u64;
-    let count = flows.count as usize;
-    let each = flows.each;
-    let mut i = 0;
-    while i < count {
-        let flow = each[i];
-        lay_one(i, flow, marker);
-        i += 1;
+    marker[COUNT] = flows.len() as u64;
+    for (f, flow) in flows.iter().enumerate() {
+        lay_one(f, *flow, marker);
     }
 }
 
 // A marker for these flows; where they are refused, one for a flow with rate and depth at their least.
-pub fn open(asked: Flows, marker: &mut Marker) -> Opening
+#[tactic(auto, using(crate::proofs::Public::open_fits, crate::proofs::Public::open_refuses, crate::proofs::Public::open_takes))]
+pub fn open(asked: Flows, marker: &mut Marker) -> Result<(), Refusal>
     ensures { Opens asked marker.old result marker.new }
 {
-    let refusal = marker_flows::flows_refusal(asked);
-    if refusal != 0 {
-        let least = Flow { rate: 1, depth: 1 };
-        let one = Flows {
-            count: 1,
-            each: [least; FLOWS_MOST],
-        };
-        lay(one, marker);
-        return Opening::Refused(refusal);
+    if let Err(refusal) = marker_flows::judge_flows(asked) {
+        lay(&[Flow { rate: 1, depth: 1 }], marker);
+        return Err(refusal);
     }
-    lay(asked, marker);
-    Opening::Ready
+    lay(asked.asked(), marker);
+    Ok(())
 }
 
-// The refusal number of a packet, 0 where there is none; `count` flows were opened, and the last accepted call was at `clock`.
-fn mark_refusal(flow: u32, length: Bytes, at: Instant, count: u64, clock: u64) -> u8
-    ensures { result ≡ number_of (first_refusal (packet_tests count length_most instant_most clock (call_of flow length.0 at.0))) }
+// Judges a packet.
+fn judge_packet(flow: u32, length: Bytes, at: Instant, marker: &Marker) -> Result<(), Refusal>
+    ensures { result ≡ answer_by (refusal_in marker.now (call_of flow length.0 at.0)) tt }
 {
-    if count <= flow as u64 {
-        return 51;
+    if marker[COUNT] <= flow as u64 {
+        return Err(Refusal::Flow);
     }
     if !units::length_in_range(length) {
-        return 1;
+        return Err(Refusal::Length);
     }
     if units::INSTANT_MOST < at.0 {
-        return 2;
+        return Err(Refusal::Instant);
     }
-    if at.0 < clock {
-        return 3;
+    if at.0 < marker[CLOCK] {
+        return Err(Refusal::BeforeClock);
     }
-    0
+    Ok(())
 }
 
 // What a flow's bucket holds at this instant.
@@ -152,21 +126,19 @@ fn hold(f: usize, held: u64, at: Instant, marker: &mut Marker)
 }
 
 // A packet at the door: it is left unmarked and paid for, it is marked and nothing is taken, or it is refused and nothing is stored.
-pub fn mark(flow: u32, length: Bytes, at: Instant, marker: &mut Marker) -> Answer
+#[tactic(auto, using(crate::proofs::Public::mark_refuses, crate::proofs::Public::mark_looks, crate::proofs::Public::mark_pays, crate::proofs::Public::mark_marks))]
+pub fn mark(flow: u32, length: Bytes, at: Instant, marker: &mut Marker) -> Result<Marking, Refusal>
     requires { FromOpening marker.old }
     ensures { Marks marker.old (call_of flow length.0 at.0) result marker.new }
 {
-    let refusal = mark_refusal(flow, length, at, marker[COUNT], marker[CLOCK]);
-    if refusal != 0 {
-        return Answer::Refused(refusal);
-    }
+    judge_packet(flow, length, at, marker)?;
     let f = flow as usize;
     let level = level_at(f, at, marker);
     let price = MILLION * (length.0 as u64);
     if price <= level {
         hold(f, level - price, at, marker);
-        return Answer::Unmarked;
+        return Ok(Marking::Unmarked);
     }
     hold(f, level, at, marker);
-    Answer::Marked
+    Ok(Marking::Marked)
 }

@@ -1,5 +1,6 @@
 -- Both sides of each line of the marker, as one table under a single statement. Assumes nothing.
 use Rattle.std.specs.Prelude.{◌≡◌, List, [], ◌∷◌, ◌++◌, map, ℕ, ◌*◌, replicate}
+use Rattle.refusals.specs.declared.Refusal.{Refusal}
 use Rattle.marker_flows.specs.declared.Flow.{Flow}
 use Rattle.marker_rules.specs.Terms.{terms_of}
 use Rattle.marker_rules.specs.Bucket.{million}
@@ -68,9 +69,9 @@ table =
     ∷ p 0 100 10
     ∷ []
     ))
-    (unmarked ∷ refused 51 ∷ refused 1 ∷ refused 1 ∷ refused 2 ∷ refused 3 ∷ unmarked ∷ [])
+    (unmarked ∷ refused Refusal.Flow ∷ refused Refusal.Length ∷ refused Refusal.Length ∷ refused Refusal.Instant ∷ refused Refusal.BeforeClock ∷ unmarked ∷ [])
     -- a refused opening opens one flow with rate 1 and depth 1
-    ∷ case (answers_to [] (p 0 1 0 ∷ p 0 1 999_999 ∷ p 0 1 1_000_000 ∷ p 1 1 1_000_000 ∷ [])) (unmarked ∷ marked ∷ unmarked ∷ refused 51 ∷ [])
+    ∷ case (answers_to [] (p 0 1 0 ∷ p 0 1 999_999 ∷ p 0 1 1_000_000 ∷ p 1 1 1_000_000 ∷ [])) (unmarked ∷ marked ∷ unmarked ∷ refused Refusal.Flow ∷ [])
     ∷ []
 
 -- Refusals of an opening: none, no flow, nine, 51 before 52, 52 before 53 though an earlier depth is out, and both ends of each range.

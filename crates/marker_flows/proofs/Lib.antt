@@ -1,1 +1,1 @@
-pub mod Limits
+pub mod Asked

@@ -1,5 +1,7 @@
 -- Flows with their limits, and the refusals of an opening. Assumes nothing.
-use Rattle.std.specs.Prelude.{Bool, false, not, ◌||◌, List, [], ◌∷◌, ℕ, length, get_or}
+use Rattle.std.specs.Prelude.{Bool, not, List, [], ◌∷◌, ℕ, length, get_or}
+use Rattle.std.specs.List.{list_any}
+use Rattle.refusals.specs.declared.Refusal.{Refusal}
 use Rattle.refusals.specs.First.{Test}
 use Rattle.units.specs.Limits.{in_range}
 use Rattle.lists.specs.Rows.{tab}
@@ -25,18 +27,13 @@ rate_out w = not (in_range 1 rate_most w.rate)
 abbrev pub depth_out : Flow → Bool
 depth_out w = not (in_range 1 depth_most w.depth)
 
--- One of these flows has a number out of range.
-abbrev pub any_out : (Flow → Bool) → List Flow → Bool
-any_out out [] = false
-any_out out (w ∷ ws) = out w || any_out out ws
-
 -- 52 if any rate is out of range, then 53 if any depth is.
 abbrev pub limit_tests : List Flow → List Test
-limit_tests ws = record { refusal = 52; holds = any_out rate_out ws } ∷ record { refusal = 53; holds = any_out depth_out ws } ∷ []
+limit_tests ws = record { refusal = Refusal.Rate; holds = list_any rate_out ws } ∷ record { refusal = Refusal.Depth; holds = list_any depth_out ws } ∷ []
 
 -- Refusals of an opening: 51 no flow or more than 8, then 52 and 53.
 abbrev pub open_tests : List Flow → List Test
-open_tests ws = record { refusal = 51; holds = not (in_range 1 flows_most (length ws)) } ∷ limit_tests ws
+open_tests ws = record { refusal = Refusal.Flow; holds = not (in_range 1 flows_most (length ws)) } ∷ limit_tests ws
 
 -- A flow at its least: what a refused opening opens.
 abbrev pub least_flow : Flow

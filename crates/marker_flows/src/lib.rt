@@ -2,9 +2,11 @@
 #![tactic(auto)]
 
 ghost use Rattle.std.specs.Prelude.{◌≡◌, ◌≤◌};
-ghost use Rattle.refusals.specs.First.{first_refusal, number_of};
-ghost use Rattle.units.specs.Limits.{in_range};
-ghost use Rattle.marker_flows.specs.Flows.{first_flows, flows_most, limit_tests, flows_of, open_tests};
+ghost use Rattle.std.specs.List.{list_any};
+ghost use Rattle.refusals.specs.First.{first_refusal, answer_by};
+ghost use Rattle.marker_flows.specs.Flows.{flows_most, flows_of, rate_out, depth_out, open_tests};
+
+use refusals::Refusal;
 
 // The limits of the request. Each stands once more in specs/Flows.antt, and no function is proved unless both agree.
 pub const FLOWS_MOST: usize = 8;
@@ -29,47 +31,49 @@ pub struct Flows {
     pub each: [Flow; FLOWS_MOST],
 }
 
-// Whether a rate or a depth is at least 1 and at most so much.
-fn in_range(most: u32, x: u32) -> bool
-    ensures { result ≡ in_range 1 most x }
-{
-    if x < 1 {
-        return false;
+impl Flows {
+    // The flows asked for.
+    #[tactic(auto, using(crate::proofs::Asked::flows_taken))]
+    pub fn asked(&self) -> &[Flow]
+        requires { self.now.count ≤ flows_most }
+        ensures { result.now ≡ flows_of self.now }
+    {
+        &self.each[..self.count as usize]
     }
-    x <= most
 }
 
-// The refusal number of the first flows' rates and depths. A depth out of range is only remembered: a rate after it goes first.
-fn limits_refusal(count: usize, each: [Flow; FLOWS_MOST]) -> u8
-    requires { count ≤ flows_most }
-    ensures { result ≡ number_of (first_refusal (limit_tests (first_flows count each))) }
+// Whether a rate of these flows is out of range.
+fn any_rate_out(flows: &[Flow]) -> bool
+    ensures { result ≡ list_any rate_out flows.now }
 {
-    let mut refusal = 0;
-    let mut i = 0;
-    while i < count {
-        let flow = each[i];
-        if !in_range(RATE_MOST, flow.rate) {
-            return 52;
-        }
-        if !in_range(DEPTH_MOST, flow.depth) {
-            refusal = 53;
-        }
-        i += 1;
-    }
-    refusal
+    flows
+        .iter()
+        .any(|flow| !(1..=RATE_MOST).contains(&flow.rate))
 }
 
-// The refusal number of an opening, 0 where there is none.
-pub fn flows_refusal(asked: Flows) -> u8
-    ensures { result ≡ number_of (first_refusal (open_tests (flows_of asked))) }
+// Whether a depth of these flows is out of range.
+fn any_depth_out(flows: &[Flow]) -> bool
+    ensures { result ≡ list_any depth_out flows.now }
 {
-    let count = asked.count as usize;
-    if count < 1 {
-        return 51;
+    flows
+        .iter()
+        .any(|flow| !(1..=DEPTH_MOST).contains(&flow.depth))
+}
+
+// Judges an opening: a rate out of range goes before any depth.
+#[tactic(auto, using(crate::proofs::Asked::flows_counted))]
+pub fn judge_flows(asked: Flows) -> Result<(), Refusal>
+    ensures { result ≡ answer_by (first_refusal (open_tests (flows_of asked))) tt }
+{
+    if !(1..=FLOWS_MOST).contains(&(asked.count as usize)) {
+        return Err(Refusal::Flow);
     }
-    if FLOWS_MOST < count {
-        return 51;
+    let flows = asked.asked();
+    if any_rate_out(flows) {
+        return Err(Refusal::Rate);
     }
-    let each = asked.each;
-    limits_refusal(count, each)
+    if any_depth_out(flows) {
+        return Err(Refusal::Depth);
+    }
+    Ok(())
 }

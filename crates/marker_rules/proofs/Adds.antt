@@ -24,7 +24,7 @@ module _ (f : ℕ) where
   pub adds : (c : Call) (a : Answer) → Adds c a
   adds c unmarked = adds-by c true _ refl
   adds c marked = adds-by c false _ refl
-  adds c (refused n) = no_instant (λ t. refl) (λ ts. refl) (λ ps. refl)
+  adds c (refused r) = no_instant (λ t. refl) (λ ts. refl) (λ ps. refl)
 
   -- The packets of a flow in two parts.
   add-append : (c : Call) (a : Answer) (ps qs : List Passed) → Adds c a → add_own f c a (ps ++ qs) ≡ add_own f c a ps ++ qs

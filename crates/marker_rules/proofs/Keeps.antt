@@ -6,6 +6,7 @@ use Prim.Native.Nat.{ℕ, ◌*◌}
 use native.Mathlib.Nat.{mul-zero}
 use native.Mathlib.Omega.{arith}
 use borrow.Author.Tests.{leb-false, lt-leb}
+use Rattle.refusals.specs.declared.Refusal.{Refusal}
 use Rattle.marker_rules.specs.Terms.{Terms, flow_at}
 use Rattle.marker_rules.specs.Bucket.{Bucket, full, million, level_of, holds}
 use Rattle.marker_rules.specs.Step.{Call, refused, Marker, Outcome, bucket_at, answer_by, fresh}
@@ -47,16 +48,16 @@ module _ (σ : Terms) where
       }
 
   -- An answer to an accepted packet is no refusal.
-  not_refused : (b : Bool) (n : ℕ) → answer_by b ≡ refused n → ⊥
-  not_refused true n e = let z : ◌≡◌ {A = ℕ} 0 1 = cc in omega arith
-  not_refused false n e = let z : ◌≡◌ {A = ℕ} 0 1 = cc in omega arith
+  not_refused : (b : Bool) (r : Refusal) → answer_by b ≡ refused r → ⊥
+  not_refused true r e = let z : ◌≡◌ {A = ℕ} 0 1 = cc in omega arith
+  not_refused false r e = let z : ◌≡◌ {A = ℕ} 0 1 = cc in omega arith
 
-  unmoved : (s : Marker) (c : Call) (n : ℕ) (o : Outcome) → Move σ s c o → o.answer ≡ refused n → o.marker ≡ s
-  unmoved s c n _ (refuses m) e = refl
-  unmoved s c n _ (accepts a) e = absurd (not_refused (holds (flow_at σ c.flow) (bucket_at s c.flow) c.len c.at) n e)
+  unmoved : (s : Marker) (c : Call) (r : Refusal) (o : Outcome) → Move σ s c o → o.answer ≡ refused r → o.marker ≡ s
+  unmoved s c r _ (refuses q) e = refl
+  unmoved s c r _ (accepts a) e = absurd (not_refused (holds (flow_at σ c.flow) (bucket_at s c.flow) c.len c.at) r e)
 
   pub refusal-keeps : RefusalKeeps σ
-  refusal-keeps s c n e = unmoved s c n _ (move σ s c) e
+  refusal-keeps s c r e = unmoved s c r _ (move σ s c) e
 
   pub marker-keeps : MarkerKeeps σ
   marker-keeps =

@@ -8,11 +8,13 @@ use native.Mathlib.Omega.{arith}
 use lib.Dec.{leb}
 use lib.ListN.{length, get_or}
 use borrow.Author.Tests.{leb-true, not-false, le-leb}
+use Rattle.std.specs.List.{list_any}
+use Rattle.refusals.specs.declared.Refusal.{Refusal}
 use Rattle.refusals.specs.First.{first_refusal}
-use Rattle.refusals.proofs.Laws.{passes, both, some_number, Numbered}
+use Rattle.refusals.proofs.Laws.{passes, both, number-none}
 use Rattle.units.specs.Limits.{in_range}
 use Rattle.marker_flows.specs.declared.Flow.{Flow}
-use Rattle.marker_flows.specs.Flows.{flows_most, rate_most, depth_most, rate_out, depth_out, any_out, open_tests, least_flow, no_flow}
+use Rattle.marker_flows.specs.Flows.{flows_most, rate_most, depth_most, rate_out, depth_out, open_tests, least_flow, no_flow}
 use Rattle.marker_rules.specs.Terms.{terms_of}
 use Rattle.marker_rules.specs.Step.{fresh}
 use Rattle.marker_rules.specs.Open.{opened}
@@ -32,16 +34,16 @@ neither true b e = (e, cc)
 neither false b e = (refl, e)
 
 -- None of the flows is out of range.
-none_out : (out : Flow → Bool) (ws : List Flow) (f : ℕ) → any_out out ws ≡ false → f < length ws → out (get_or ws f no_flow) ≡ false
+none_out : (out : Flow → Bool) (ws : List Flow) (f : ℕ) → list_any out ws ≡ false → f < length ws → out (get_or ws f no_flow) ≡ false
 none_out out [] f e h = absurd (omega arith)
-none_out out (w ∷ ws) zero e h = (neither (out w) (any_out out ws) e).0
-none_out out (w ∷ ws) (suc f) e h = none_out out ws f (neither (out w) (any_out out ws) e).1 (omega arith)
+none_out out (w ∷ ws) zero e h = (neither (out w) (list_any out ws) e).0
+none_out out (w ∷ ws) (suc f) e h = none_out out ws f (neither (out w) (list_any out ws) e).1 (omega arith)
 
-all_in : (out : Flow → Bool) (ws : List Flow) → ((f : ℕ) → f < length ws → out (get_or ws f no_flow) ≡ false) → any_out out ws ≡ false
+all_in : (out : Flow → Bool) (ws : List Flow) → ((f : ℕ) → f < length ws → out (get_or ws f no_flow) ≡ false) → list_any out ws ≡ false
 all_in out [] h = refl
 all_in out (w ∷ ws) h = rw (h 0 (omega arith)) (all_in out ws (λ f l. h (suc f) (omega arith)))
 
-in_range_lem : (ws : List Flow) → first_refusal (open_tests ws) ≡ none → InRange ws
+pub in_range_lem : (ws : List Flow) → first_refusal (open_tests ws) ≡ none → InRange ws
 in_range_lem ws e =
     let p = passes (open_tests ws) e in
     let n = within flows_most (length ws) p.0 in
@@ -62,19 +64,16 @@ not_refused ws k =
       all_in depth_out ws (λ f h. inside depth_most (get_or ws f no_flow).depth (k.each f h).depth_least (k.each f h).depth_most),
     )
 
--- No refusal of an opening has the number 0.
-pub numbered : (ws : List Flow) → Numbered (open_tests ws)
-numbered ws = (omega arith, (omega arith, (omega arith, tt)))
+-- An opening is not refused exactly if its number is 0.
+number-zero : (ws : List Flow) (o : Option Refusal) → (opened o ws).number ≡ 0 → o ≡ none
+number-zero ws none z = refl
+number-zero ws (some r) z = number-none (some r) z
 
-number-zero : (ws : List Flow) (o : Option ℕ) → first_refusal (open_tests ws) ≡ o → (opened o ws).number ≡ 0 → first_refusal (open_tests ws) ≡ none
-number-zero ws none e z = e
-number-zero ws (some n) e z = absurd (omega (arith, some_number (open_tests ws) n (numbered ws) e))
-
-zero_number : (ws : List Flow) (o : Option ℕ) → o ≡ none → (opened o ws).number ≡ 0
+zero_number : (ws : List Flow) (o : Option Refusal) → o ≡ none → (opened o ws).number ≡ 0
 zero_number ws o e = rw e
 
 pub opens_in_range : OpensInRange
-opens_in_range ws = ((λ z. in_range_lem ws (number-zero ws _ refl z)), (λ k. zero_number ws (first_refusal (open_tests ws)) (not_refused ws k)))
+opens_in_range ws = ((λ z. in_range_lem ws (number-zero ws _ z)), (λ k. zero_number ws (first_refusal (open_tests ws)) (not_refused ws k)))
 
 least_in_range : InRange (least_flow ∷ [])
 least_in_range =
@@ -86,17 +85,16 @@ least_in_range =
           rw z (record { rate_least = omega arith; rate_most = omega arith; depth_least = omega arith; depth_most = omega arith });
     }
 
-ranges : (ws : List Flow) (o : Option ℕ) → first_refusal (open_tests ws) ≡ o → InRange (opened o ws).terms.flows
+ranges : (ws : List Flow) (o : Option Refusal) → first_refusal (open_tests ws) ≡ o → InRange (opened o ws).terms.flows
 ranges ws none e = in_range_lem ws e
-ranges ws (some n) e = least_in_range
+ranges ws (some r) e = least_in_range
 
-asked : (ws : List Flow) (o : Option ℕ) → first_refusal (open_tests ws) ≡ o → (opened o ws).number ≡ 0 → (opened o ws).terms ≡ terms_of ws
-asked ws none e z = refl
-asked ws (some n) e z = absurd (omega (arith, some_number (open_tests ws) n (numbered ws) e))
+asked : (ws : List Flow) (o : Option Refusal) → (opened o ws).number ≡ 0 → (opened o ws).terms ≡ terms_of ws
+asked ws o z = rw (number-zero ws o z)
 
-filled : (ws : List Flow) (o : Option ℕ) → (opened o ws).marker ≡ fresh (opened o ws).terms
+filled : (ws : List Flow) (o : Option Refusal) → (opened o ws).marker ≡ fresh (opened o ws).terms
 filled ws none = refl
-filled ws (some n) = refl
+filled ws (some r) = refl
 
 pub opens-sound : OpensSound
-opens-sound ws = (ranges ws _ refl, asked ws _ refl, filled ws (first_refusal (open_tests ws)))
+opens-sound ws = (ranges ws _ refl, asked ws _, filled ws (first_refusal (open_tests ws)))

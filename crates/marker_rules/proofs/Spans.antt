@@ -101,7 +101,7 @@ module _ (σ : Terms) where
 
   clock_then_lem : (s : Marker) (c : Call) {o : Outcome} → Move σ s c o
       → (s.clock ≤ clock_then s.clock c o.answer) × (o.marker.clock ≡ clock_then s.clock c o.answer)
-  clock_then_lem s c (refuses n) = (omega arith, refl)
+  clock_then_lem s c (refuses r) = (omega arith, refl)
   clock_then_lem s c (accepts a) =
       let e = answered (holds (flow_at σ c.flow) (bucket_at s c.flow) c.len c.at) s.clock c in
       (rw e a.onward, sym e)

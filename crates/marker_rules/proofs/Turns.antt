@@ -9,6 +9,7 @@ use lib.Dec.{eqb}
 use lib.ListN.{length, length-set, length-map, get_or-map}
 use lib.Seq.{get_or-set_same, get_or-set_other}
 use borrow.Author.Tests.{ltb-false, leb-false, eqb-true, eqb-false}
+use Rattle.refusals.specs.declared.Refusal.{Refusal}
 use Rattle.refusals.specs.First.{first_refusal}
 use Rattle.refusals.proofs.Laws.{passes}
 use Rattle.marker_flows.specs.Flows.{no_flow}
@@ -26,14 +27,14 @@ module _ (σ : Terms) where
 
   -- The two moves of the marker.
   pub data Move (s : Marker) (c : Call) : Outcome → Type 0 where
-    refuses : (n : ℕ) → Move s c (refusal s n)
+    refuses : (r : Refusal) → Move s c (refusal s r)
     accepts : Accepted s c → Move s c (accepted σ s c)
 
-  move-by : (s : Marker) (c : Call) (o : Option ℕ) → first_refusal (tests_of σ s c) ≡ o → Move s c (answering σ o s c)
+  move-by : (s : Marker) (c : Call) (o : Option Refusal) → first_refusal (tests_of σ s c) ≡ o → Move s c (answering σ o s c)
   move-by s c none e =
       let p = passes (tests_of σ s c) e in
       accepts (record { opened = leb-false _ _ p.0; onward = ltb-false _ _ p.1.1.1.0 })
-  move-by s c (some n) e = refuses n
+  move-by s c (some r) e = refuses r
 
   pub move : (s : Marker) (c : Call) → Move s c (step σ s c)
   unfolding step
@@ -77,14 +78,14 @@ module _ (σ : Terms) where
         ∙ ap (λ (g : ℕ). passed c (holds (flow_at σ g) (bucket_at s g) c.len c.at) ∷ ps) same)
 
     turn_of : (s : Marker) (c : Call) {o : Outcome} → Lasting s → Move s c o → Turn s o.marker c o.answer
-    turn_of s c k (refuses n) = aside (omega arith) refl (λ ps. refl)
+    turn_of s c k (refuses r) = aside (omega arith) refl (λ ps. refl)
     turn_of s c k (accepts a) = accepted-turn s c _ refl k a
 
     pub turn : (s : Marker) (c : Call) → Lasting s → Turn s (step σ s c).marker c (step σ s c).answer
     turn s c k = turn_of s c k (move s c)
 
     counted_step : (s : Marker) (c : Call) {o : Outcome} → Move s c o → length o.marker.buckets ≡ length s.buckets
-    counted_step s c (refuses n) = refl
+    counted_step s c (refuses r) = refl
     counted_step s c (accepts a) = length-set s.buckets c.flow _
 
     lasting-by : (s s' : Marker) (c : Call) (a : Answer) → length s'.buckets ≡ length s.buckets → Lasting s → Turn s s' c a → Lasting s'

@@ -1,5 +1,6 @@
 -- The marker's promises, over every list of calls from opening, refused calls included. Assumes nothing.
 use Rattle.std.specs.Prelude.{◌≡◌, false, ◌↔◌, List, ℕ, ◌≤◌, ◌<◌}
+use Rattle.refusals.specs.declared.Refusal.{Refusal}
 use Rattle.marker_flows.specs.declared.Flow.{Flow}
 use Rattle.marker_rules.specs.Terms.{Terms, flow_at}
 use Rattle.marker_rules.specs.Bucket.{Bucket, top_of, holds}
@@ -22,7 +23,7 @@ LongIsMarked = (w : Flow) (len : ℕ) → ((b : Bucket) (t : ℕ) → holds w b 
 module _ (σ : Terms) where
   -- A refused call changes nothing.
   abbrev pub RefusalKeeps : Type 0
-  RefusalKeeps = (s : Marker) (c : Call) (n : ℕ) → (step σ s c).answer ≡ refused n → (step σ s c).marker ≡ s
+  RefusalKeeps = (s : Marker) (c : Call) (r : Refusal) → (step σ s c).answer ≡ refused r → (step σ s c).marker ≡ s
 
   -- A bucket never holds more than its depth, and was last looked at no later than the clock.
   abbrev pub BucketsSound : Type 0

@@ -1,6 +1,7 @@
 -- A packet at the door and its answer; lists of packets. Assumes nothing.
 use Rattle.std.specs.Prelude.{Bool, true, false, not, List, [], ◌∷◌, map, ℕ, leb, ltb, length, get_or, set}
 use Rattle.std.proofs.Math.Option.{Option, none, some}
+use Rattle.refusals.specs.declared.Refusal.{Refusal}
 use Rattle.refusals.specs.First.{Test, first_refusal}
 use Rattle.units.specs.Limits.{in_range}
 use Rattle.marker_flows.specs.Flows.{no_flow}
@@ -16,7 +17,7 @@ pub record Call : Type 0 where
 pub data Answer : Type 0 where
   unmarked : Answer
   marked : Answer
-  refused : (number : ℕ) → Answer
+  refused : Refusal → Answer
 
 -- The marker between two calls.
 pub record Marker : Type 0 where
@@ -34,16 +35,16 @@ abbrev pub bucket_at : Marker → (f : ℕ) → Bucket
 bucket_at s f = get_or s.buckets f (full no_flow)
 
 -- Every refusal changes no state.
-abbrev pub refusal : Marker → ℕ → Outcome
-refusal s n = record { marker = s; answer = refused n }
+abbrev pub refusal : Marker → Refusal → Outcome
+refusal s r = record { marker = s; answer = refused r }
 
 -- Refusals of a packet where so many flows were opened: 51 a flow that was not, then 1, 2 and 3 as in document 01, with one clock for all flows.
 abbrev pub packet_tests : (flows longest latest clock : ℕ) → Call → List Test
 packet_tests flows longest latest clock c =
-    record { refusal = 51; holds = leb flows c.flow }
-    ∷ record { refusal = 1; holds = not (in_range 1 longest c.len) }
-    ∷ record { refusal = 2; holds = ltb latest c.at }
-    ∷ record { refusal = 3; holds = ltb c.at clock }
+    record { refusal = Refusal.Flow; holds = leb flows c.flow }
+    ∷ record { refusal = Refusal.Length; holds = not (in_range 1 longest c.len) }
+    ∷ record { refusal = Refusal.Instant; holds = ltb latest c.at }
+    ∷ record { refusal = Refusal.BeforeClock; holds = ltb c.at clock }
     ∷ []
 
 -- The answer to a packet whose whole length its bucket holds, or not.
@@ -71,8 +72,8 @@ module _ (σ : Terms) where
         answer = answer_by (holds (flow_at σ c.flow) (bucket_at s c.flow) c.len c.at);
       }
 
-  abbrev pub answering : Option ℕ → Marker → Call → Outcome
-  answering (some n) s c = refusal s n
+  abbrev pub answering : Option Refusal → Marker → Call → Outcome
+  answering (some r) s c = refusal s r
   answering none s c = accepted s c
 
   -- One call.

@@ -17,7 +17,7 @@ told σ s (c ∷ cs) = record { call = c; answer = (step σ s c).answer } ∷ to
 abbrev pub add_instant : Call → Answer → List ℕ → List ℕ
 add_instant c unmarked ts = c.at ∷ ts
 add_instant c marked ts = c.at ∷ ts
-add_instant c (refused n) ts = ts
+add_instant c (refused r) ts = ts
 
 -- The instants of the accepted calls, of all flows.
 abbrev pub instants : List Told → List ℕ
@@ -28,7 +28,7 @@ instants (h ∷ hs) = add_instant h.call h.answer (instants hs)
 abbrev pub clock_then : (t : ℕ) → Call → Answer → ℕ
 clock_then t c unmarked = c.at
 clock_then t c marked = c.at
-clock_then t c (refused n) = t
+clock_then t c (refused r) = t
 
 -- The instants of the accepted calls never go back, from t on.
 abbrev pub Onward : (t : ℕ) → List Told → Type 0
@@ -63,7 +63,7 @@ add_if false p ps = ps
 abbrev pub add_own : (f : ℕ) → Call → Answer → List Passed → List Passed
 add_own f c unmarked ps = add_if (eqb c.flow f) (passed c true) ps
 add_own f c marked ps = add_if (eqb c.flow f) (passed c false) ps
-add_own f c (refused n) ps = ps
+add_own f c (refused r) ps = ps
 
 -- The accepted packets of flow f.
 abbrev pub of_flow : (f : ℕ) → List Told → List Passed

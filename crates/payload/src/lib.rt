@@ -1,36 +1,37 @@
-// The payload view: `view` and `view_refusal` are public calls; the marking names the area where a payload lies.
+// The payload view: `view` and `judge_view` are public calls; the marking names the area where a payload lies.
 #![tactic(auto)]
 
 ghost use Rattle.std.specs.Prelude.{◌≡◌};
-ghost use Rattle.payload.specs.Part.{view_refusal, Viewed};
+ghost use Rattle.refusals.specs.First.{first_refusal, answer_by};
+ghost use Rattle.payload.specs.Part.{view_tests, Viewed};
 ghost use Rattle.payload.specs.View.{area_of};
 
+use refusals::Refusal;
 use units::{Bytes, Marking, length_in_range};
 
-// The refusal number in one area, 0 if there is none.
-fn part_refusal(area: &[u8], length: Bytes, place: u32) -> u8
-    ensures { result ≡ view_refusal area.now length.0 place }
+// Judges a view of one area.
+fn judge_part(area: &[u8], length: Bytes, place: u32) -> Result<(), Refusal>
+    ensures { result ≡ answer_by (first_refusal (view_tests area.now length.0 place)) tt }
 {
     if !length_in_range(length) {
-        return 1;
+        return Err(Refusal::Length);
     }
     if (area.len() as u64) < (place as u64) + (length.0 as u64) {
-        return 31;
+        return Err(Refusal::OutsideArea);
     }
-    0
+    Ok(())
 }
 
 // That part of the area itself, or an empty part.
 fn part(area: &[u8], length: Bytes, place: u32) -> &[u8]
     ensures { Viewed area.entry length.0 place result }
 {
-    if part_refusal(area, length, place) == 0 {
-        let from = place as usize;
-        let to = from + (length.0 as usize);
-        &area[from..to]
-    } else {
-        &area[..0]
+    if judge_part(area, length, place).is_err() {
+        return &area[..0];
     }
+    let from = place as usize;
+    let to = from + (length.0 as usize);
+    &area[from..to]
 }
 
 // The payload itself: that part of the area that the marking names, or an empty part.
@@ -49,18 +50,18 @@ pub fn view<'a>(
     }
 }
 
-// The refusal number of the same view, 0 if there is none.
-pub fn view_refusal<'a>(
+// Judges the same view: what it is refused for.
+pub fn judge_view<'a>(
     unmarked: &'a [u8],
     marked: &'a [u8],
     marking: Marking,
     length: Bytes,
     place: u32,
-) -> u8
-    ensures { result ≡ view_refusal (area_of marking unmarked.now marked.now) length.0 place }
+) -> Result<(), Refusal>
+    ensures { result ≡ answer_by (first_refusal (view_tests (area_of marking unmarked.now marked.now) length.0 place)) tt }
 {
     match marking {
-        Marking::Unmarked => part_refusal(unmarked, length, place),
-        Marking::Marked => part_refusal(marked, length, place),
+        Marking::Unmarked => judge_part(unmarked, length, place),
+        Marking::Marked => judge_part(marked, length, place),
     }
 }

@@ -1,11 +1,7 @@
--- Flow by flow: so many of them are laid.
-use Rattle.std.proofs.Common.{◌≡◌, ◌-◌, ◌≤◌}
-use Rattle.marker_flows.specs.Flows.{flows_most, first_flows}
-use Rattle.marker.specs.Calls.{laid}
+-- Flow by flow: with those that are to come, all are laid.
+use Rattle.std.proofs.Common.{◌≡◌, drop}
+use Rattle.marker.specs.Calls.{laid, laid_all}
 use Rattle.marker.proofs.lay.Given as goal
 
-abbrev pub invariant-loop-i : goal.invariant-loop-i
-invariant-loop-i l = (l.i ≤ l.count) × (l.count ≤ flows_most) × (l.marker ≡ laid l.initial.marker 0 (first_flows l.i l.each))
-
-abbrev pub decreases-loop-i : goal.decreases-loop-i
-decreases-loop-i l = l.count - l.i
+abbrev pub invariant-loop-f : goal.invariant-loop-f
+invariant-loop-f l = laid l.marker l.f (drop l.f l.flows) ≡ laid_all l.fn.marker l.flows
