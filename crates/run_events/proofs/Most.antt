@@ -20,12 +20,14 @@ use Rattle.rules.proofs.Opened.{opens-sound, answers-bounded, tallies-bounded}
 use Rattle.block_image.specs.Image.{event_at}
 use Rattle.room.specs.declared.Room.{Room}
 use Rattle.scheduler_state.specs.declared.Scheduler.{Scheduler}
-use Rattle.scheduler_answers.specs.declared.Admission.{Admission}
-use Rattle.scheduler_answers.specs.declared.Decision.{Decision}
-use Rattle.scheduler_answers.specs.declared.Outcome.{Outcome}
+use Rattle.std.specs.Prelude.{Option, Some, None, Result, Ok, Err}
+use Rattle.refusals.specs.declared.Refusal.{Refusal}
+use Rattle.refusals.specs.Numbers.{number}
+use Rattle.scheduler_answers.specs.declared.Admitted.{Admitted}
+use Rattle.scheduler_answers.specs.declared.Start.{Start}
 use Rattle.scheduler.specs.Calls.{arrive_of, advance_of}
 use Rattle.scheduler_answers.specs.Packets.{packet_of}
-use Rattle.scheduler_answers.specs.Values.{admission_values, decision_values, advance_values}
+use Rattle.scheduler_answers.specs.Values.{admission_values, advance_values}
 use Rattle.scheduler.specs.Machine.{made, bytes, instant, scheduler_after, room_after}
 use Rattle.text.specs.Text.{values_text, lines_text}
 use Rattle.text.proofs.Fields.{line-most, line-within}
@@ -36,18 +38,18 @@ use Rattle.run_events.specs.Most.{line_most, tally_most, TraceMost}
 use Rattle.run_events.specs.Tells.{events_text}
 use Rattle.run_events.proofs.Tells.{values_at, text_none, text_next}
 
-admission-most : (a : Admission) → length (values_text (admission_values a)) ≤ 86
-admission-most (Admission.Unmarked n e) = line-most 65 (n ∷ e.0 ∷ []) 4 (omega arith)
-admission-most (Admission.Marked n) = line-most 77 (n ∷ []) 4 (omega arith)
-admission-most (Admission.Refused c) = line-most 82 (c ∷ []) 4 (omega arith)
+refused-most : (r : Refusal) → length (values_text (82 ∷ number r ∷ [])) ≤ 86
+refused-most r = line-most 82 (number r ∷ []) 4 (omega arith)
 
-decision-most : (d : Decision) → length (values_text (decision_values d)) ≤ 86
-decision-most (Decision.Started x) = line-most 83 (x.number ∷ x.at.0 ∷ x.extra.0 ∷ x.dropped ∷ []) 4 (omega arith)
-decision-most Decision.NothingDue = line-most 78 [] 4 (omega arith)
+admission-most : (a : Result Admitted Refusal) → length (values_text (admission_values a)) ≤ 86
+admission-most (Ok (Admitted.Unmarked n e)) = line-most 65 (n ∷ e.0 ∷ []) 4 (omega arith)
+admission-most (Ok (Admitted.Marked n)) = line-most 77 (n ∷ []) 4 (omega arith)
+admission-most (Err r) = refused-most r
 
-advance-most : (o : Outcome) → length (values_text (advance_values o)) ≤ 86
-advance-most (Outcome.Decided d) = decision-most d
-advance-most (Outcome.Refused c) = line-most 82 (c ∷ []) 4 (omega arith)
+advance-most : (o : Result (Option Start) Refusal) → length (values_text (advance_values o)) ≤ 86
+advance-most (Ok (Some x)) = line-most 83 (x.number ∷ x.at.0 ∷ x.extra.0 ∷ x.dropped ∷ []) 4 (omega arith)
+advance-most (Ok None) = line-most 78 [] 4 (omega arith)
+advance-most (Err r) = refused-most r
 
 event-most : (s : Scheduler) (r : Room) (c : Call) → length (values_text (made s r c).values) ≤ 86
 event-most s r (arrive μ len place t) = admission-most (arrive_of s r (packet_of μ (bytes len) place (instant t))).answer
@@ -71,7 +73,7 @@ line-short w n (admitted (marked m) e) few r h = omega (arith, line-within 77 (4
 line-short w n (started x) few r h =
     omega (arith, line-within 83 (4 ∷ 16 ∷ 7 ∷ 2 ∷ []) (number_of x ∷ x.at ∷ x.extra ∷ x.dropped ∷ []) (omega arith))
 line-short w n nothing_due few r h = omega arith
-line-short w n (refused k) few r h = omega (arith, line-within 82 (1 ∷ []) (k ∷ []) (omega arith))
+line-short w n (refused k) few r h = omega (arith, line-within 82 (1 ∷ []) (number k ∷ []) (omega arith))
 
 tally-short : (n : ℕ) (k : Tallies) → n ≤ 1984 → TallyBounds n k → length (values_text (tally_line k)) ≤ tally_most
 tally-short n k few h =

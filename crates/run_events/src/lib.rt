@@ -1,7 +1,7 @@
 // Events played on the scheduler, and the text of a trace told to a lent area; for the crate `run`. The waiting room is in its frame.
 #![tactic(auto)]
 
-ghost use Rattle.std.specs.Prelude.{◌≡◌, ◌+◌, ◌*◌, ◌/◌, ◌^◌, ◌≤◌, ◌<◌, min, length};
+ghost use Rattle.std.specs.Prelude.{◌≡◌, ◌+◌, ◌*◌, ◌/◌, ◌^◌, ◌≤◌, ◌<◌, length};
 ghost use Rattle.rules.specs.Step.{advance};
 ghost use Rattle.scheduler.specs.Machine.{FromOpening};
 ghost use Rattle.scheduler.specs.Steps.{arrival_of};
@@ -22,7 +22,7 @@ use units::{Instant, Marking, Settings};
 // How many events a block has, unless it is the last.
 const BLOCK_EVENTS: usize = 31;
 
-// The place behind a line of the text, and the scheduler from there on.
+// The place behind what was told, and the scheduler from there on.
 #[derive(Clone, Copy)]
 pub struct Played {
     pub next: usize,
@@ -34,6 +34,28 @@ pub struct Played {
 pub enum Coming {
     Arrival(Packet),
     Advance(Instant),
+}
+
+impl From<Event> for Coming {
+    ghost from_gives = { λ event coming. coming_call coming ≡ call_of event };
+
+    fn from(event: Event) -> Coming {
+        match event {
+            Event::Unmarked { at, length, place } => Coming::Arrival(Packet {
+                marking: Marking::Unmarked,
+                length,
+                place,
+                arrival: at,
+            }),
+            Event::Marked { at, length, place } => Coming::Arrival(Packet {
+                marking: Marking::Marked,
+                length,
+                place,
+                arrival: at,
+            }),
+            Event::Advance { at } => Coming::Advance(at),
+        }
+    }
 }
 
 fn play_arrival(
@@ -74,27 +96,6 @@ fn play_advance(
     }
 }
 
-// The call that an event is.
-fn call_of(event: Event) -> Coming
-    ensures { coming_call result ≡ call_of event }
-{
-    match event {
-        Event::Unmarked { at, length, place } => Coming::Arrival(Packet {
-            marking: Marking::Unmarked,
-            length,
-            place,
-            arrival: at,
-        }),
-        Event::Marked { at, length, place } => Coming::Arrival(Packet {
-            marking: Marking::Marked,
-            length,
-            place,
-            arrival: at,
-        }),
-        Event::Advance { at } => Coming::Advance(at),
-    }
-}
-
 // Plays one event, and tells its line.
 fn play(
     event: Event,
@@ -106,28 +107,9 @@ fn play(
     requires { FromOpening scheduler room.old × (next < 2 ^ 32) }
     ensures { Plays answer.old next answer.new scheduler room.old (call_of event) result room.new }
 {
-    match call_of(event) {
+    match Coming::from(event) {
         Coming::Arrival(packet) => play_arrival(scheduler, packet, room, answer, next),
         Coming::Advance(at) => play_advance(scheduler, at, room, answer, next),
-    }
-}
-
-// The place behind a text, and the scheduler after its events.
-#[derive(Clone, Copy)]
-pub struct Told {
-    pub next: usize,
-    pub scheduler: Scheduler,
-}
-
-// Where the block of event k ends, if k is the first there.
-fn block_end(k: usize, events: usize) -> usize
-    requires { k < events }
-    ensures { (k < result) × (result ≡ min (k + 31) events) }
-{
-    if events - k < BLOCK_EVENTS {
-        events
-    } else {
-        k + BLOCK_EVENTS
     }
 }
 
@@ -139,31 +121,24 @@ fn tell_events(
     scheduler: Scheduler,
     answer: &mut [u8],
     room: &mut Room,
-) -> Told
+) -> Played
     requires from_opening { FromOpening scheduler room.old }
     requires events_bound { (events ≤ 31 * (length image.now / 512)) × (events ≤ 1984) }
     ensures { Tells image.now events scheduler room.old answer.old answer.new result }
 {
-    let mut then = scheduler;
-    let mut next = 0;
-    let mut k = 0;
-    let mut block = 0;
-    while k < events {
-        let first = k;
-        let end = block_end(k, events);
-        while k < end {
-            let event = event_in(image, block, k - first);
-            let played = play(event, then, room, answer, next);
-            next = played.next;
-            then = copied(played.scheduler);
-            k += 1;
+    let mut so_far = Played { next: 0, scheduler };
+    for block in 0..events.div_ceil(BLOCK_EVENTS) {
+        let left = events - BLOCK_EVENTS * block;
+        for i in 0..left.min(BLOCK_EVENTS) {
+            let event = event_in(image, block, i);
+            let played = play(event, so_far.scheduler, room, answer, so_far.next);
+            so_far = Played {
+                next: played.next,
+                scheduler: copied(played.scheduler),
+            };
         }
-        block += 1;
     }
-    Told {
-        next,
-        scheduler: then,
-    }
+    so_far
 }
 
 // Tells the text of a trace to the area, and returns its length. The waiting room is in its frame.

@@ -1,28 +1,27 @@
 -- A turn of the inner loop plays one event more; its line begins where the lines so far end. Assumes nothing.
-use Rattle.std.proofs.Common.{◌≡◌, ◌+◌, ◌-◌, ◌*◌, ◌∙◌, ap, arith}
-use Rattle.block_image.specs.Image.{event_at}
+use Rattle.std.proofs.Common.{◌≡◌, ◌+◌, ◌*◌, refl, arith}
+use native.Mathlib.Numerals.{unary_clauses}
 use Rattle.run_events.proofs.Tells.{so_far_none, so_far_more}
 use Rattle.run_events.proofs.Most.{events-most}
 use Rattle.run_events.proofs.tell_events.Goals as goal
 
-pub loop-k-init : goal.loop-k-init
-loop-k-init c = (omega arith, so_far_none _ _ _ _ c.requires.from_opening)
+pub loop-block-init : goal.loop-block-init
+loop-block-init c = simp unary_clauses (so_far_none _ _ _ _ c.requires.from_opening)
 
 pub play-played-requires : goal.play-played-requires
 play-played-requires c =
-    let so = c.loop-k-2.invariant.2 _ _ _ c.loop-k.invariant.1 in
-    let most = events-most c.args.image.now c.args.scheduler c.args.room.now c.loop-k-2.k in
+    let so = c.loop-i.invariant.1 in
+    let most = events-most c.args.image.now c.args.scheduler c.args.room.now (31 * c.loop-block.block + c.loop-i.i) in
     (so.reached.kept, omega (arith, so.told.place))
 
-pub loop-k-2-preserved : goal.loop-k-2-preserved
-loop-k-2-preserved c =
+pub loop-i-preserved : goal.loop-i-preserved
+loop-i-preserved c =
     let p = c.play-played in
-    let l = c.loop-k-2 in
-    let outer = c.loop-k in
-    let place : 31 * outer.block + (l.k - outer.k) ≡ l.k = omega arith in (
-      omega arith,
-      omega arith,
-      λ s r area h.
-          so_far_more c.args.image.now s r area l.k l.then l.room p.new.room l.answer _ l.next c.event_in-event.result p.result _
-          (l.invariant.2 s r area h) (c.event_in-event.ensures ∙ ap (event_at c.args.image.now) place) p.ensures p.auto.answer c.copied-then.ensures,
+    let l = c.loop-i in
+    let k = 31 * c.loop-block.block + l.i in
+    let next : 31 * c.loop-block.block + (l.i + 1) ≡ k + 1 = omega arith in (
+      refl,
+      rw next
+          (so_far_more c.args.image.now c.args.scheduler c.args.room.now c.args.answer.now k l.so_far.scheduler l.room p.new.room l.answer _ l.so_far.next
+          c.event_in-event.result p.result _ l.invariant.1 c.event_in-event.ensures p.ensures p.auto.answer c.copied.ensures),
     )
