@@ -3,13 +3,14 @@ use mathlib.Core.Path.{◌≡◌, refl, sym, ap, subst, ◌∙◌}
 use mathlib.Core.List.{List, [], ◌∷◌, ◌++◌, append_assoc, append-nil}
 use Prim.Native.Nat.{ℕ, zero, suc, ◌+◌, ◌-◌, ◌*◌, ◌/◌, ◌%◌, ◌^◌, ◌≤◌, ◌<◌}
 use native.Mathlib.Omega.{arith}
-use native.Mathlib.Nat.{add-zero, zero-add, add-suc, suc-add, add_assoc, mul_assoc, mul_left_comm, add-mul, mul-add, zero-mul, one-mul, mul-one, pow-zero, pow-suc, div-one, mul_comm, div-div-eq-div-mul}
-use lib.Arith.{mod-mul, digits_div, digits_mod, digits_lt}
-use lib.Pow.{pow-add}
-use lib.ListN.{length, get_or, take, drop, length-append, length-drop, get_or-append}
-use lib.Seq.{sets, take-suc, get_or-drop, get_or_at, get_or-append-add}
-use Rattle.lists.proofs.Stores.{stored, stored_more}
-use Rattle.octets.specs.Octets.{Octets, number_at, octets_of, low_first, swapped, turned}
+use native.Mathlib.Nat.{add-zero, add-suc, add_assoc, mul_assoc, add-mul, mul-one, pow-zero, pow-suc, div-one, mul_comm, div-div-eq-div-mul}
+use lib.Arith.{digits_div, digits_mod, digits_lt}
+use lib.ListN.{length, get_or, take, drop, length-append, length-drop, get_or-append, replicate}
+use lib.Seq.{sets, sets-eq, take-suc, drop_at, length-take-le, get_or-drop, get_or_at, get_or-append-add, drop-drop}
+use borrow.Rule.Slice.PartMut.{put_mid, post_of}
+use Rattle.std.proofs.lemmas.List.{take_all, get_or-take, get_or-replicate}
+use Rattle.std.specs.Int.{w64, byte_at, bytes_high_first, from_be_bytes, to_be_bytes}
+use Rattle.octets.specs.Octets.{Octets, number_at, octets_of}
 
 -- n bytes and then m bytes: the first number scaled by 256 ^ m, and the second.
 pub number-add : (s : List ℕ) (at n m : ℕ) → number_at s at (n + m) ≡ number_at s at n * 256 ^ m + number_at s (at + n) m
@@ -65,44 +66,42 @@ unfolding number_at
 number-room s at zero b = omega arith
 number-room s at (suc n) b = rw (pow-suc 256 n) (digits_lt (number-room s at n b) (b (at + n)))
 
--- The same bytes, first lowest: n bytes, and then m bytes scaled by 256 ^ n.
-pub low-add : (s : List ℕ) (at n m : ℕ) → low_first s at (n + m) ≡ low_first s at n + 256 ^ n * low_first s (at + n) m
-unfolding low_first
-low-add s at zero m = simp (add-zero, pow-zero, one-mul, zero-add)
-low-add s at (suc n) m =
-    let e : at + 1 + n ≡ at + suc n = omega arith in
-    let h = low-add s (at + 1) n m in
-    rw (suc-add n m, h, e, pow-suc 256 n) (simp (mul-add, add_assoc, mul_assoc, mul_left_comm))
+-- The number of 8 bytes as std puts it together.
+pub eight : (s : List ℕ) → from_be_bytes w64 s ≡ number_at s 0 8
+unfolding number_at
+eight s = omega arith
 
--- Two bytes turned are swapped.
-pub turned_two : (w : ℕ) → w < 65536 → turned 2 w ≡ swapped w
-unfolding turned
-turned_two w h = omega arith
+-- Zeros spell 0.
+number_zeros : (s : List ℕ) (at n : ℕ) → ((k : ℕ) → k < n → get_or s (at + k) 0 ≡ 0) → number_at s at n ≡ 0
+unfolding number_at
+number_zeros s at zero h = refl
+number_zeros s at (suc n) h = rw (number_zeros s at n (λ k l. h k (omega arith)), h n (omega arith)) (omega arith)
 
--- Turned by parts: the lower n bytes come first.
-pub turned-add : (n m v : ℕ) → turned (n + m) v ≡ turned n (v % 256 ^ n) * 256 ^ m + turned m (v / 256 ^ n)
-unfolding turned
-turned-add zero m v = simp (pow-zero, div-one, zero-mul, zero-add)
-turned-add (suc n) m v =
-    let low : v % 256 < 256 = omega arith in
-    let e : v % 256 ^ suc n ≡ (v / 256 % 256 ^ n) * 256 + v % 256 = ap (λ (k : ℕ). v % k) (pow-suc 256 n) ∙ mod-mul v (pos n) (omega arith) in
-    let d : v / 256 / 256 ^ n ≡ v / 256 ^ suc n = div-div-eq-div-mul v 256 (256 ^ n) ∙ ap (λ (k : ℕ). v / k) (mul_comm 256 (256 ^ n) ∙ sym (pow-suc 256 n)) in
-    rw (suc-add n m, turned-add n m (v / 256), e, digits_div (v / 256 % 256 ^ n) low, digits_mod (v / 256 % 256 ^ n) low, d, pow-add 256 n m)
-    (simp (add-mul, add_assoc, mul_assoc))
+-- The n bytes q of s from `at` spell behind m zeros what they spell there.
+pub behind_zeros : (s q r : List ℕ) (at m n : ℕ) → m ≤ 8 → at + n ≤ length s → q ≡ take n (drop at s) → number_at (take m (replicate 8 0) ++ (q ++ r)) 0 (m + n) ≡ number_at s at n
+behind_zeros s q r at m n w h e =
+    let p : List ℕ = take m (replicate 8 0) in
+    let front : length p ≡ m = length-take-le m (replicate 8 0) (omega (arith, w)) in
+    let len : length q ≡ n = ap length e ∙ length-take-le n (drop at s) (omega (arith, length-drop at s)) in
+    let zeros : number_at (p ++ (q ++ r)) 0 m ≡ 0 =
+    number_zeros (p ++ (q ++ r)) 0 m (λ k l.
+    get_or-append p (q ++ r) 0 (0 + k) (omega arith)
+    ∙ get_or-take m (replicate 8 0) (0 + k) 0 (omega arith)
+    ∙ get_or-replicate 8 (0 + k) 0 0 (omega arith)) in
+    let own : number_at q 0 n ≡ number_at s at n =
+    number_ext q s 0 at n (λ k l.
+    rw (e, get_or-take n (drop at s) (0 + k) 0 (omega arith), get_or-drop at s (0 + k) 0) (ap (λ (j : ℕ). get_or s j 0) (omega arith))) in
+    let last : number_at (p ++ (q ++ r)) (0 + m) n ≡ number_at s at n =
+    ap (λ (j : ℕ). number_at (p ++ (q ++ r)) j n) (omega arith) ∙ number-after p q r m n front len ∙ own in
+    number-add (p ++ (q ++ r)) 0 m n ∙ rw (zeros, last) (omega arith)
 
--- What is loaded and turned is what the bytes spell.
-pub turned-low : (s : List ℕ) (at n : ℕ) → Octets s → turned n (low_first s at n) ≡ number_at s at n
-unfolding turned low_first
-turned-low s at zero b = number-none s at
-turned-low s at (suc n) b =
-    let low : get_or s at 0 < 256 = b at in
-    let rest = low_first s (at + 1) n in
-    let d : (get_or s at 0 + 256 * rest) / 256 ≡ rest = omega arith in
-    let m : (get_or s at 0 + 256 * rest) % 256 ≡ get_or s at 0 = omega arith in
-    rw (d, m, turned-low s (at + 1) n b)
-    (ap (λ (k : ℕ). k * 256 ^ n + number_at s (at + 1) n) (sym (number-one s at))
-    ∙ sym (number-add s at 1 n)
-    ∙ ap (λ (k : ℕ). number_at s at k) (omega arith))
+-- So they are read as the last of 8 bytes.
+pub read_of : (s q : List ℕ) (at n : ℕ) → n ≤ 8 → at + n ≤ length s → q ≡ take (at + n - at) (drop at s) → from_be_bytes w64 (put_mid (8 - n) (8 - (8 - n)) (replicate 8 0) q) ≡ number_at s at n
+read_of s q at n w h e =
+    let z = put_mid (8 - n) (8 - (8 - n)) (replicate 8 0) q in
+    let all : 8 ≡ 8 - n + n = omega arith in
+    let part : at + n - at ≡ n = omega arith in
+    eight z ∙ ap (λ (k : ℕ). number_at z 0 k) all ∙ behind_zeros s q (post_of (8 - n) (8 - (8 - n)) (replicate 8 0)) at (8 - n) n (omega arith) h (rw part at e)
 
 pub length_octets : (n v : ℕ) → length (octets_of n v) ≡ n
 unfolding octets_of
@@ -117,22 +116,30 @@ octets_add n (suc m) v =
     rw (add-suc n m, octets_add n m (v / 256), append_assoc)
     (ap (λ (k : ℕ). octets_of n k ++ octets_of (suc m) v) (div-div-eq-div-mul v 256 (256 ^ m) ∙ ap (λ (k : ℕ). v / k) (mul_comm 256 (256 ^ m) ∙ sym (pow-suc 256 m))))
 
--- What stands above the n bytes does not matter.
-pub octets_mod : (n v : ℕ) → octets_of n (v % 256 ^ n) ≡ octets_of n v
-unfolding octets_of
-octets_mod zero v = refl
-octets_mod (suc n) v =
-    let low : v % 256 < 256 = omega arith in
-    let e : v % 256 ^ suc n ≡ (v / 256 % 256 ^ n) * 256 + v % 256 = ap (λ (k : ℕ). v % k) (pow-suc 256 n) ∙ mod-mul v (pos n) (omega arith) in
-    rw (e, digits_div (v / 256 % 256 ^ n) low, digits_mod (v / 256 % 256 ^ n) low, octets_mod n (v / 256))
+byte_is : (n v : ℕ) → byte_at n v ≡ v / 256 ^ n % 256
+byte_is zero v = rw (pow-zero, div-one) refl
+byte_is (suc n) v = refl
 
--- The two halves of v stored one after the other are v stored.
-pub halves : (l m m' : List ℕ) (at n v : ℕ) → m ≡ sets l at (octets_of n (v / 256 ^ n % 256 ^ n)) → m' ≡ sets m (at + n) (octets_of n (v % 256 ^ n)) → m' ≡ sets l at (octets_of (n + n) v)
-halves l m m' at n v e f =
-    let high = octets_of n (v / 256 ^ n % 256 ^ n) in
-    let low = octets_of n (v % 256 ^ n) in
-    let all = stored_more l at n high m n low m' (stored l at n high m (length_octets n _) e) (length_octets n _) f in
-    all.is ∙ rw (octets_mod n (v / 256 ^ n), octets_mod n v, octets_add n n v)
+-- The bytes of a number as std takes it apart.
+pub high_first : (n v : ℕ) → bytes_high_first n v ≡ octets_of n v
+unfolding octets_of
+high_first zero v = refl
+high_first (suc n) v =
+    let e : suc n ≡ 1 + n = omega arith in
+    rw (byte_is n v, high_first n v) (sym (ap (λ (k : ℕ). octets_of k v) e ∙ octets_add 1 n v))
+
+-- The last n of its 8 bytes are its bytes, n of them, so these are stored.
+pub stored_of : (s q : List ℕ) (at n v : ℕ) → n ≤ 8 → at + n ≤ length s → q ≡ take (8 - (8 - n)) (drop (8 - n) (to_be_bytes w64 v)) → put_mid at (at + n - at) s q ≡ sets s at (octets_of n v)
+stored_of s q at n v w h e =
+    let m = 8 - n in
+    let high = octets_of m (v / 256 ^ n) in
+    let own = octets_of n v in
+    let len : length own ≡ n = length_octets n v in
+    let all : 8 ≡ m + n = omega arith in
+    let part : at + n - at ≡ n = omega arith in
+    let whole : octets_of 8 v ≡ high ++ own = ap (λ (k : ℕ). octets_of k v) all ∙ octets_add m n v in
+    let is : q ≡ own = e ∙ rw (high_first 8 v, whole, drop_at high own m (length_octets m _)) (take_all _ own (omega arith)) in
+    rw (is, part, sets-eq own s at (omega arith), append_assoc, len, drop-drop n at s) refl
 
 -- The bytes of v spell v.
 pub number_octets : (n v : ℕ) → v < 256 ^ n → number_at (octets_of n v) 0 n ≡ v

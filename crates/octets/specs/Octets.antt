@@ -10,19 +10,9 @@ unfoldable pub number_at : List ℕ → (at width : ℕ) → ℕ
 number_at s at zero = 0
 number_at s at (suc n) = number_at s at n * 256 + get_or s (at + n) 0
 
--- The same with the first the lowest, as the machine holds a number.
-unfoldable pub low_first : List ℕ → (at width : ℕ) → ℕ
-low_first s at zero = 0
-low_first s at (suc n) = get_or s at 0 + 256 * low_first s (at + 1) n
-
 -- A word with its two bytes swapped.
 abbrev pub swapped : ℕ → ℕ
 swapped w = w % 256 * 256 + w / 256
-
--- A number with its bytes, as many as `width` says, in the opposite order.
-unfoldable pub turned : (width value : ℕ) → ℕ
-turned zero v = 0
-turned (suc n) v = v % 256 * 256 ^ n + turned n (v / 256)
 
 -- The bytes that spell a number, as many as `width` says, the first the highest.
 unfoldable pub octets_of : (width value : ℕ) → List ℕ
