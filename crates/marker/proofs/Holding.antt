@@ -1,10 +1,10 @@
 -- What is read in the words once a packet was accepted. Assumes nothing.
-use mathlib.Core.Path.{◌≡◌, refl, sym, ◌∙◌}
+use mathlib.Core.Path.{◌≡◌, refl, sym, ap, ◌∙◌}
 use mathlib.Core.Bool.{Bool, true, false}
-use Prim.Native.Nat.{ℕ, ◌+◌, ◌*◌, ◌≤◌, ◌<◌}
+use Prim.Native.Nat.{ℕ, ◌≤◌, ◌<◌}
 use native.Mathlib.Omega.{arith}
 use lib.Dec.{eqb}
-use lib.ListN.{length, length-set, get_or, set}
+use lib.ListN.{length, length-set, set}
 use lib.Seq.{get_or-set_same, get_or-set_other}
 use borrow.Author.Tests.{eqb-true, eqb-false}
 use Rattle.marker_flows.specs.declared.Flow.{Flow}
@@ -12,65 +12,51 @@ use Rattle.marker_flows.specs.Flows.{flows_most, no_flow}
 use Rattle.marker_rules.specs.Terms.{Terms, flow_at}
 use Rattle.marker_rules.specs.Bucket.{Bucket, full}
 use Rattle.marker_rules.specs.Step.{Marker, bucket_at}
-use Rattle.marker.specs.Words.{Words, Sized, clock_in, rate_in, top_in, held_in, looked_in, holding}
+use Rattle.marker.specs.declared.FlowWords.{FlowWords}
+use Rattle.marker.specs.Words.{Words, Sized, no_words, clock_in, count_in, rate_in, top_in, holding}
 use Rattle.marker.specs.Stands.{FlowStands, Stands}
 
 module _ (w : Words) (f x t : ℕ) where
-  -- A word that is none of the three stays: so do the limits of every flow.
-  untouched : (j : ℕ) → (j ≡ 0 → ⊥) → (j ≡ 4 + 4 * f → ⊥) → (j ≡ 5 + 4 * f → ⊥) → get_or (holding w f x t) j 0 ≡ get_or w j 0
+  -- The flow's words then.
+  abbrev then : FlowWords
+  then = record { rate = rate_in w f; top = top_in w f; held = x; looked = t }
+
+  held-sized : Sized w → Sized (holding w f x t)
   unfolding holding
-  untouched j a b c =
-      get_or-set_other (set (set w 0 t) (4 + 4 * f) x) (5 + 4 * f) j t 0 c
-      ∙ get_or-set_other (set w 0 t) (4 + 4 * f) j x 0 b
-      ∙ get_or-set_other w 0 j t 0 a
+  held-sized z = simp length-set z
 
-  rate-stays : (g : ℕ) → rate_in (holding w f x t) g ≡ rate_in w g
-  rate-stays g = untouched (2 + 4 * g) (λ e. omega arith) (λ e. omega arith) (λ e. omega arith)
+  held-clock : clock_in (holding w f x t) ≡ t
+  unfolding holding
+  held-clock = refl
 
-  top-stays : (g : ℕ) → top_in (holding w f x t) g ≡ top_in w g
-  top-stays g = untouched (3 + 4 * g) (λ e. omega arith) (λ e. omega arith) (λ e. omega arith)
+  held-count : count_in (holding w f x t) ≡ count_in w
+  unfolding holding
+  held-count = refl
 
   -- Another flow's words.
   other : (g : ℕ) (y : Flow) (b : Bucket) → (g ≡ f → ⊥) → FlowStands w g y b → FlowStands (holding w f x t) g y b
+  unfolding holding
   other g y b apart k =
+      let same = get_or-set_other w.flows f g then no_words apart in
       record {
-        rate = rate-stays g ∙ k.rate;
-        top = top-stays g ∙ k.top;
-        held = untouched (4 + 4 * g) (λ e. omega arith) (λ e. apart (omega arith)) (λ e. omega arith) ∙ k.held;
-        looked = untouched (5 + 4 * g) (λ e. omega arith) (λ e. omega arith) (λ e. apart (omega arith)) ∙ k.looked;
+        rate = ap (λ (q : FlowWords). q.rate) same ∙ k.rate;
+        top = ap (λ (q : FlowWords). q.top) same ∙ k.top;
+        held = ap (λ (q : FlowWords). q.held) same ∙ k.held;
+        looked = ap (λ (q : FlowWords). q.looked) same ∙ k.looked;
       }
 
   -- The flow's own words.
-  module _ (z : Sized w) (h : f < flows_most) where
-    held-now : held_in (holding w f x t) f ≡ x
-    unfolding holding
-    held-now =
-        get_or-set_other (set (set w 0 t) (4 + 4 * f) x) (5 + 4 * f) (4 + 4 * f) t 0 (λ e. omega arith)
-        ∙ get_or-set_same (set w 0 t) (4 + 4 * f) x 0 (simp length-set (omega arith))
-
-    looked-now : looked_in (holding w f x t) f ≡ t
-    unfolding holding
-    looked-now = get_or-set_same (set (set w 0 t) (4 + 4 * f) x) (5 + 4 * f) t 0 (simp length-set (omega arith))
-
-    own : (y : Flow) (b c : Bucket) → FlowStands w f y b → c.held ≡ x → c.looked ≡ t → FlowStands (holding w f x t) f y c
-    own y b c k d e =
-        record {
-          rate = rate-stays f ∙ k.rate;
-          top = top-stays f ∙ k.top;
-          held = held-now ∙ sym d;
-          looked = looked-now ∙ sym e;
-        }
-
-    clock-now : clock_in (holding w f x t) ≡ t
-    unfolding holding
-    clock-now =
-        get_or-set_other (set (set w 0 t) (4 + 4 * f) x) (5 + 4 * f) 0 t 0 (λ e. omega arith)
-        ∙ get_or-set_other (set w 0 t) (4 + 4 * f) 0 x 0 (λ e. omega arith)
-        ∙ get_or-set_same w 0 t 0 (omega arith)
-
-held-length : (w : Words) (f x t : ℕ) → length (holding w f x t) ≡ length w
-unfolding holding
-held-length w f x t = simp length-set
+  own : Sized w → f < flows_most → (y : Flow) (b c : Bucket) → FlowStands w f y b → c.held ≡ x → c.looked ≡ t
+      → FlowStands (holding w f x t) f y c
+  unfolding holding
+  own z h y b c k d e =
+      let now = get_or-set_same w.flows f then no_words (omega arith) in
+      record {
+        rate = ap (λ (q : FlowWords). q.rate) now ∙ k.rate;
+        top = ap (λ (q : FlowWords). q.top) now ∙ k.top;
+        held = ap (λ (q : FlowWords). q.held) now ∙ sym d;
+        looked = ap (λ (q : FlowWords). q.looked) now ∙ sym e;
+      }
 
 -- The words stand for the marker whose clock is t and whose flow f has this bucket.
 pub stands-held : (σ : Terms) (w : Words) (s : Marker) (f t : ℕ) (b : Bucket) → Stands σ w s → length s.buckets ≡ length σ.flows
@@ -78,9 +64,9 @@ pub stands-held : (σ : Terms) (w : Words) (s : Marker) (f t : ℕ) (b : Bucket)
     → Stands σ (holding w f b.held t) (record { clock = t; buckets = set s.buckets f b })
 stands-held σ w s f t b k n h m e =
     record {
-      sized = held-length w f b.held t ∙ k.sized;
-      clock = clock-now w f b.held t k.sized (omega arith);
-      count = untouched w f b.held t 1 (λ e. omega arith) (λ e. omega arith) (λ e. omega arith) ∙ k.count;
+      sized = held-sized w f b.held t k.sized;
+      clock = held-clock w f b.held t;
+      count = held-count w f b.held t ∙ k.count;
       flows = λ g l. by g l (eqb g f) refl;
     }
   where

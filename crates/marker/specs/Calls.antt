@@ -1,5 +1,5 @@
 -- What each call gives, and what it leaves in the words: exactly, for accepted and refused calls alike. Assumes nothing.
-use Rattle.std.specs.Prelude.{Bool, true, false, cond, List, [], ◌∷◌, ℕ, suc, ◌+◌, ◌*◌, ◌-◌, leb, length, set, Result}
+use Rattle.std.specs.Prelude.{Bool, true, false, cond, List, [], ◌∷◌, ℕ, suc, ◌*◌, ◌-◌, leb, length, set, Result}
 use Rattle.std.proofs.Math.Option.{Option, none, some}
 use Rattle.refusals.specs.declared.Refusal.{Refusal}
 use Rattle.refusals.specs.First.{first_refusal, answer_by}
@@ -8,22 +8,18 @@ use Rattle.units.specs.Limits.{length_most, instant_most}
 use Rattle.marker_flows.specs.declared.Flow.{Flow}
 use Rattle.marker_flows.specs.declared.Flows.{Flows}
 use Rattle.marker_flows.specs.Flows.{open_tests, least_flow, flows_of}
-use Rattle.marker_rules.specs.Bucket.{million, top_of, filled_to}
+use Rattle.marker_rules.specs.Bucket.{million, filled_to}
 use Rattle.marker_rules.specs.Step.{Call, packet_tests}
-use Rattle.marker.specs.Words.{Words, clock_in, count_in, rate_in, top_in, held_in, looked_in, holding}
+use Rattle.marker.specs.Words.{Words, clock_in, count_in, rate_in, top_in, held_in, looked_in, holding, full_words}
 
--- OPEN. A flow's words, with a full bucket that was looked at at 0.
-unfoldable pub laid_one : Words → (f : ℕ) → Flow → Words
-laid_one w f x = set (set (set (set w (2 + 4 * f) x.rate) (3 + 4 * f) (top_of x)) (4 + 4 * f) (top_of x)) (5 + 4 * f) 0
-
--- The words of these flows, the first of them as flow i.
+-- OPEN. The words of these flows, the first of them as flow i.
 abbrev pub laid : Words → (i : ℕ) → List Flow → Words
 laid w i [] = w
-laid w i (x ∷ xs) = laid (laid_one w i x) (suc i) xs
+laid w i (x ∷ xs) = laid (record { clock = w.clock; count = w.count; flows = set w.flows i (full_words x) }) (suc i) xs
 
 -- A clock at 0, their count and their words.
 abbrev pub laid_all : Words → List Flow → Words
-laid_all w xs = laid (set (set w 0 0) 1 (length xs)) 0 xs
+laid_all w xs = laid (record { clock = 0; count = length xs; flows = w.flows }) 0 xs
 
 -- The refusal of an opening, if there is one.
 abbrev pub open_refusal : Flows → Option Refusal

@@ -5,9 +5,9 @@
 ghost use Rattle.std.specs.Prelude.{◌≡◌, ◌≤◌, ◌<◌, length};
 ghost use Rattle.refusals.specs.First.{answer_by};
 ghost use Rattle.marker_flows.specs.Flows.{flows_most};
-ghost use Rattle.marker.specs.Words.{Empty, holding};
+ghost use Rattle.marker.specs.Words.{Empty, full_words, holding};
 ghost use Rattle.marker.specs.Lookable.{Lookable};
-ghost use Rattle.marker.specs.Calls.{laid_one, laid_all, call_of, refusal_in, level_in};
+ghost use Rattle.marker.specs.Calls.{laid_all, call_of, refusal_in, level_in};
 ghost use Rattle.marker.specs.Machine.{FromOpening};
 ghost use Rattle.marker.specs.Promises.{Opens, Marks};
 
@@ -17,45 +17,54 @@ pub use marker_flows::{Flow, Flows};
 use refusals::Refusal;
 use units::{Bytes, Instant, Marking, Ticks};
 
-// The instant of the last accepted call, and how many flows were opened.
-const CLOCK: usize = 0;
+// A flow's words: its rate, its depth, what its bucket held when it was last looked at, and when that was. Depth and content are in millionths of a
+// byte. A C host lends these words and those of the marker as they are.
+#[repr(C)]
+#[derive(Clone, Copy)]
+pub struct FlowWords {
+    rate: u64,
+    top: u64,
+    held: u64,
+    looked: u64,
+}
 
-const COUNT: usize = 1;
-
-// The words of a flow: its rate, its depth, what its bucket held when it was last looked at, and when that was. Depth and content are in
-// millionths of a byte.
-const RATE: usize = 2;
-
-const TOP: usize = 3;
-
-const HELD: usize = 4;
-
-const LOOKED: usize = 5;
-
-const FLOW_WORDS: usize = 4;
-
-const WORDS: usize = RATE + FLOWS_MOST * FLOW_WORDS;
-
-pub type Marker = [u64; WORDS];
+// The instant of the last accepted call, how many flows were opened, and the words of each.
+#[repr(C)]
+#[derive(Clone, Copy)]
+pub struct Marker {
+    clock: u64,
+    count: u64,
+    flows: [FlowWords; FLOWS_MOST],
+}
 
 // Words to lend; whatever stands in them counts for nothing.
 pub fn empty() -> Marker
     ensures { Empty result }
 {
-    [0u64; WORDS]
+    let nothing = FlowWords {
+        rate: 0,
+        top: 0,
+        held: 0,
+        looked: 0,
+    };
+    Marker {
+        clock: 0,
+        count: 0,
+        flows: [nothing; FLOWS_MOST],
+    }
 }
 
 // A flow's words, with a full bucket.
-#[tactic(auto, unfolding(crate::specs::Calls::laid_one))]
-fn lay_one(f: usize, flow: Flow, marker: &mut Marker)
-    requires { f < flows_most }
-    ensures { marker.new ≡ laid_one marker.old f flow }
+fn full(flow: Flow) -> FlowWords
+    ensures { result ≡ full_words flow }
 {
     let top = MILLION * (flow.depth as u64);
-    marker[RATE + FLOW_WORDS * f] = flow.rate as u64;
-    marker[TOP + FLOW_WORDS * f] = top;
-    marker[HELD + FLOW_WORDS * f] = top;
-    marker[LOOKED + FLOW_WORDS * f] = 0;
+    FlowWords {
+        rate: flow.rate as u64,
+        top,
+        held: top,
+        looked: 0,
+    }
 }
 
 // The words of these flows. Those of flows that are not opened stay as they were, and no call reads them.
@@ -63,10 +72,10 @@ fn lay(flows: &[Flow], marker: &mut Marker)
     requires { length flows.now ≤ flows_most }
     ensures { marker.new ≡ laid_all marker.old flows.now }
 {
-    marker[CLOCK] = 0;
-    marker[COUNT] = flows.len() as u64;
+    marker.clock = 0;
+    marker.count = flows.len() as u64;
     for (f, flow) in flows.iter().enumerate() {
-        lay_one(f, *flow, marker);
+        marker.flows[f] = full(*flow);
     }
 }
 
@@ -87,7 +96,7 @@ pub fn open(asked: Flows, marker: &mut Marker) -> Result<(), Refusal>
 fn judge_packet(flow: u32, length: Bytes, at: Instant, marker: &Marker) -> Result<(), Refusal>
     ensures { result ≡ answer_by (refusal_in marker.now (call_of flow length.0 at.0)) tt }
 {
-    if marker[COUNT] <= flow as u64 {
+    if marker.count <= flow as u64 {
         return Err(Refusal::Flow);
     }
     if !units::length_in_range(length) {
@@ -96,7 +105,7 @@ fn judge_packet(flow: u32, length: Bytes, at: Instant, marker: &Marker) -> Resul
     if units::INSTANT_MOST < at.0 {
         return Err(Refusal::Instant);
     }
-    if at.0 < marker[CLOCK] {
+    if at.0 < marker.clock {
         return Err(Refusal::BeforeClock);
     }
     Ok(())
@@ -107,11 +116,13 @@ fn level_at(f: usize, at: Instant, marker: &Marker) -> u64
     requires { Lookable marker.now f at.0 }
     ensures { result ≡ level_in marker.now f at.0 }
 {
-    let rate = marker[RATE + FLOW_WORDS * f];
-    let top = marker[TOP + FLOW_WORDS * f];
-    let held = marker[HELD + FLOW_WORDS * f];
-    let looked = marker[LOOKED + FLOW_WORDS * f];
-    marker_bucket::fill(top, held, rate, Ticks(at.0 - looked))
+    let words = marker.flows[f];
+    marker_bucket::fill(
+        words.top,
+        words.held,
+        words.rate,
+        Ticks(at.0 - words.looked),
+    )
 }
 
 // A packet was accepted: its flow's bucket was looked at, and holds so much since.
@@ -120,9 +131,12 @@ fn hold(f: usize, held: u64, at: Instant, marker: &mut Marker)
     requires { f < flows_most }
     ensures { marker.new ≡ holding marker.old f held at.0 }
 {
-    marker[CLOCK] = at.0;
-    marker[HELD + FLOW_WORDS * f] = held;
-    marker[LOOKED + FLOW_WORDS * f] = at.0;
+    marker.clock = at.0;
+    marker.flows[f] = FlowWords {
+        held,
+        looked: at.0,
+        ..marker.flows[f]
+    };
 }
 
 // A packet at the door: it is left unmarked and paid for, it is marked and nothing is taken, or it is refused and nothing is stored.
