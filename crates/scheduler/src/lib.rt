@@ -24,7 +24,7 @@ pub fn open(settings: Settings) -> Opened
     };
     Opened {
         answer,
-        scheduler: scheduler_state::fresh(in_force),
+        scheduler: Scheduler::fresh(in_force),
     }
 }
 
@@ -33,13 +33,12 @@ pub fn arrive(scheduler: Scheduler, packet: Packet, room: &mut Room) -> Arrived
     requires { FromOpening scheduler room.old }
     ensures { Arrives scheduler room.old packet result room.new }
 {
-    let rank = scheduler_state::gone(scheduler.tallies);
+    let rank = scheduler.tallies.gone();
     let head = room::packet_at(rank, room);
-    let marking = packet.marking;
     let judged = scheduler_refusals::judge_arrival(
         scheduler,
         head.arrival,
-        marking,
+        packet.marking,
         packet.length,
         packet.arrival,
     );
@@ -63,19 +62,19 @@ pub fn advance(scheduler: Scheduler, at: Instant, room: &Room) -> Advanced
             scheduler,
         };
     }
-    if !scheduler_state::waits(scheduler.tallies) {
+    if !scheduler.tallies.waits() {
         return Advanced {
             answer: Ok(None),
-            scheduler: scheduler_state::idle(scheduler, at),
+            scheduler: scheduler.idle(at),
         };
     }
-    let rank = scheduler_state::gone(scheduler.tallies);
+    let rank = scheduler.tallies.gone();
     let head = room::packet_at(rank, room);
     let due = scheduler_refusals::due(scheduler.line, head.arrival);
     if at < due {
         return Advanced {
             answer: Ok(None),
-            scheduler: scheduler_state::idle(scheduler, at),
+            scheduler: scheduler.idle(at),
         };
     }
     scheduler_decision::decide(scheduler, head, due, at, room)

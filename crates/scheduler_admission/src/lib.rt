@@ -3,6 +3,8 @@
 
 ghost use Rattle.std.specs.Prelude.{◌≡◌, ◌≤◌, ◌<◌};
 ghost use Rattle.units.specs.Limits.{admissions_most};
+ghost use Rattle.units.specs.declared.Marking.TheVariants.{Unmarked};
+ghost use Rattle.scheduler_state.specs.Counts.{waiting_of};
 ghost use Rattle.scheduler_state.specs.Bounds.{times_most, Small};
 ghost use Rattle.scheduler_admission.specs.Admitted.{joined_of, admitted_unmarked, admitted_marked};
 ghost use Rattle.scheduler_admission.specs.Admit.{admit_unmarked, admit_marked, admit_of, admit_entry, admit_room};
@@ -14,24 +16,17 @@ use scheduler_state::{Extra, Scheduler};
 use units::{Instant, Marking, Ticks};
 
 // One more unmarked packet waits.
-fn joined(extra: Extra, waiting: u32, time: Ticks, own: Ticks) -> Extra
-    requires { (extra.sum.0 ≤ times_most) × (time.0 ≤ times_most) }
-    ensures { result ≡ joined_of extra waiting time own }
+fn joined(scheduler: Scheduler, time: Ticks, own: Ticks) -> Extra
+    requires { Small scheduler × (time.0 ≤ times_most) }
+    ensures { result ≡ joined_of scheduler.extra (waiting_of Unmarked scheduler.tallies) time own }
 {
-    let sum = Ticks(extra.sum.0 + time.0);
-    if waiting == 0 {
-        return Extra {
-            sum,
-            first: own,
-            last: own,
-        };
+    let mut extra = scheduler.extra;
+    extra.sum = Ticks(extra.sum.0 + time.0);
+    if scheduler.tallies.waiting(Marking::Unmarked) == 0 {
+        extra.first = own;
     }
-    let first = extra.first;
-    Extra {
-        sum,
-        first,
-        last: own,
-    }
+    extra.last = own;
+    extra
 }
 
 // A marked packet is admitted at this instant.
@@ -40,8 +35,7 @@ pub fn admitted_marked(scheduler: Scheduler, at: Instant) -> Scheduler
     ensures { result ≡ admitted_marked scheduler at }
 {
     let mut next = scheduler;
-    let count = next.tallies.admitted.marked + 1;
-    next.tallies.admitted.marked = count;
+    next.tallies.admitted.marked += 1;
     next.clock = at;
     next
 }
@@ -51,12 +45,9 @@ pub fn admitted_unmarked(scheduler: Scheduler, time: Ticks, own: Ticks, at: Inst
     requires { Small scheduler × (scheduler.tallies.admitted.unmarked < admissions_most) × (time.0 ≤ times_most) }
     ensures { result ≡ admitted_unmarked scheduler time own at }
 {
-    let waiting = scheduler_state::waiting(Marking::Unmarked, scheduler.tallies);
-    let extra = joined(scheduler.extra, waiting, time, own);
     let mut next = scheduler;
-    let count = next.tallies.admitted.unmarked + 1;
-    next.tallies.admitted.unmarked = count;
-    next.extra = extra;
+    next.tallies.admitted.unmarked += 1;
+    next.extra = joined(scheduler, time, own);
     next.clock = at;
     next
 }
@@ -67,10 +58,9 @@ fn admit_unmarked(scheduler: Scheduler, packet: Packet, room: &mut Room) -> Arri
     ensures value { result ≡ admit_unmarked scheduler packet }
     ensures left { room.new ≡ admit_entry scheduler room.old packet }
 {
-    let number = scheduler_state::admissions(scheduler.tallies) + 1;
-    let waiting = scheduler_state::waiting(Marking::Unmarked, scheduler.tallies);
-    let own = scheduler_state::own_delay(scheduler.line, scheduler.extra, waiting, packet.arrival);
-    let less = scheduler_state::difference(scheduler.extra, own);
+    let number = scheduler.tallies.admissions() + 1;
+    let own = scheduler.own_delay(packet.arrival);
+    let less = scheduler.difference(own);
     room::enter(scheduler.tallies.admitted.unmarked, number, less, room);
     let time = units::transmission_time(scheduler.settings, packet.length);
     Arrived {
@@ -84,7 +74,7 @@ fn admit_marked(scheduler: Scheduler, packet: Packet) -> Arrived
     requires { Admits scheduler packet }
     ensures { result ≡ admit_marked scheduler packet }
 {
-    let number = scheduler_state::admissions(scheduler.tallies) + 1;
+    let number = scheduler.tallies.admissions() + 1;
     Arrived {
         answer: Ok(Admitted::Marked { number }),
         scheduler: admitted_marked(scheduler, packet.arrival),
@@ -97,10 +87,9 @@ pub fn admit(scheduler: Scheduler, packet: Packet, room: &mut Room) -> Arrived
     ensures value { result ≡ admit_of scheduler packet }
     ensures left { room.new ≡ admit_room scheduler room.old packet }
 {
-    let rank = scheduler_state::admissions(scheduler.tallies);
+    let rank = scheduler.tallies.admissions();
     room::put(packet, rank, room);
-    let marking = packet.marking;
-    match marking {
+    match packet.marking {
         Marking::Unmarked => admit_unmarked(scheduler, packet, room),
         Marking::Marked => admit_marked(scheduler, packet),
     }

@@ -3,7 +3,9 @@
 #![tactic(auto)]
 
 ghost use Rattle.std.specs.Prelude.{◌≡◌, ◌+◌, ◌≤◌, ◌<◌};
-ghost use Rattle.units.specs.Limits.{alpha_most, instant_most, admissions_most};
+ghost use Rattle.units.specs.Limits.{instant_most, admissions_most};
+ghost use Rattle.units.specs.declared.Marking.TheVariants.{Unmarked};
+ghost use Rattle.scheduler_state.specs.Counts.{waiting_of, Counted};
 ghost use Rattle.scheduler_state.specs.Bounds.{times_most, Small};
 ghost use Rattle.scheduler_answers.specs.Packets.{time_of};
 ghost use Rattle.scheduler_decision.specs.Started.{delayed_of, passed_of, started_marked, started_unmarked};
@@ -16,33 +18,29 @@ use scheduler_state::{Extra, Line, Scheduler};
 use units::{Instant, Marking, Ticks};
 
 // A marked packet started: every waiting unmarked packet is that much later.
-fn delayed(extra: Extra, waiting: u32, time: Ticks) -> Extra
-    requires { (extra.first.0 ≤ alpha_most) × (extra.last.0 ≤ alpha_most) × (time.0 ≤ times_most) }
-    ensures { result ≡ delayed_of extra waiting time }
+fn delayed(scheduler: Scheduler, time: Ticks) -> Extra
+    requires { Small scheduler × (time.0 ≤ times_most) }
+    ensures { result ≡ delayed_of scheduler.extra (waiting_of Unmarked scheduler.tallies) time }
 {
-    if waiting == 0 {
-        return extra;
+    let mut extra = scheduler.extra;
+    if scheduler.tallies.waiting(Marking::Unmarked) != 0 {
+        extra.first = Ticks(extra.first.0 + time.0);
+        extra.last = Ticks(extra.last.0 + time.0);
     }
-    let sum = extra.sum;
-    Extra {
-        sum,
-        first: Ticks(extra.first.0 + time.0),
-        last: Ticks(extra.last.0 + time.0),
-    }
+    extra
 }
 
 // The first of the waiting unmarked packets started.
-fn passed(extra: Extra, waiting: u32, time: Ticks, difference: Ticks) -> Extra
-    ensures { result ≡ passed_of extra waiting time difference }
+fn passed(scheduler: Scheduler, time: Ticks, difference: Ticks) -> Extra
+    requires { Counted scheduler.tallies }
+    ensures { result ≡ passed_of scheduler.extra (waiting_of Unmarked scheduler.tallies) time difference }
 {
-    let sum = Ticks(scheduler_state::less(extra.sum.0, time.0));
-    let last = extra.last;
-    if waiting <= 1 {
-        let first = extra.first;
-        return Extra { sum, first, last };
+    let mut extra = scheduler.extra;
+    extra.sum = Ticks(extra.sum.0.saturating_sub(time.0));
+    if 1 < scheduler.tallies.waiting(Marking::Unmarked) {
+        extra.first = Ticks(extra.first.0.saturating_sub(difference.0));
     }
-    let first = Ticks(scheduler_state::less(extra.first.0, difference.0));
-    Extra { sum, first, last }
+    extra
 }
 
 // A marked packet starts at the due instant; the clock is at `at`.
@@ -50,17 +48,13 @@ pub fn started_marked(scheduler: Scheduler, due: Instant, time: Ticks, at: Insta
     requires { Small scheduler × (scheduler.tallies.started.marked < admissions_most) × (due.0 ≤ instant_most) × (time.0 ≤ times_most) }
     ensures { result ≡ started_marked scheduler due time at }
 {
-    let waiting = scheduler_state::waiting(Marking::Unmarked, scheduler.tallies);
-    let extra = delayed(scheduler.extra, waiting, time);
-    let line = Line {
+    let mut next = scheduler;
+    next.tallies.started.marked += 1;
+    next.line = Line {
         free: Instant(due.0 + time.0),
         last: Marking::Marked,
     };
-    let mut next = scheduler;
-    let count = next.tallies.started.marked + 1;
-    next.tallies.started.marked = count;
-    next.line = line;
-    next.extra = extra;
+    next.extra = delayed(scheduler, time);
     next.clock = at;
     next
 }
@@ -77,19 +71,14 @@ pub fn started_unmarked(
     requires { Small scheduler × (scheduler.tallies.started.unmarked < admissions_most) × (scheduler.tallies.dropped + dropped ≤ admissions_most) × (due.0 ≤ instant_most) × (time.0 ≤ times_most) }
     ensures { result ≡ started_unmarked scheduler due time difference dropped at }
 {
-    let waiting = scheduler_state::waiting(Marking::Unmarked, scheduler.tallies);
-    let extra = passed(scheduler.extra, waiting, time, difference);
-    let line = Line {
+    let mut next = scheduler;
+    next.tallies.started.unmarked += 1;
+    next.tallies.dropped += dropped;
+    next.line = Line {
         free: Instant(due.0 + time.0),
         last: Marking::Unmarked,
     };
-    let mut next = scheduler;
-    let count = next.tallies.started.unmarked + 1;
-    next.tallies.started.unmarked = count;
-    let lost = next.tallies.dropped + dropped;
-    next.tallies.dropped = lost;
-    next.line = line;
-    next.extra = extra;
+    next.extra = passed(scheduler, time, difference);
     next.clock = at;
     next
 }
@@ -99,15 +88,8 @@ fn sent(scheduler: Scheduler, head: Packet) -> bool
     requires { Small scheduler × ((time_of scheduler head).0 ≤ times_most) }
     ensures { result ≡ sent_of scheduler head }
 {
-    let marking = head.marking;
-    match marking {
-        Marking::Unmarked => false,
-        Marking::Marked => {
-            let waiting = scheduler_state::waiting(Marking::Unmarked, scheduler.tallies);
-            let time = units::transmission_time(scheduler.settings, head.length);
-            scheduler_state::fits(scheduler.settings, scheduler.extra, waiting, time)
-        }
-    }
+    let time = units::transmission_time(scheduler.settings, head.length);
+    head.marking == Marking::Marked && scheduler.fits(time)
 }
 
 // The marked packet at the head starts.
@@ -115,7 +97,7 @@ fn start_head(scheduler: Scheduler, head: Packet, due: Instant, at: Instant) -> 
     requires { HeadStarts scheduler head due }
     ensures { result ≡ start_head scheduler head due at }
 {
-    let number = scheduler_state::gone(scheduler.tallies) + 1;
+    let number = scheduler.tallies.gone() + 1;
     let time = units::transmission_time(scheduler.settings, head.length);
     let start = Start {
         number,
@@ -138,7 +120,7 @@ fn start_first(scheduler: Scheduler, due: Instant, at: Instant, room: &Room) -> 
     let turn = scheduler.tallies.started.unmarked;
     let number = room::number_of(turn, room);
     let packet = room::packet_at(number - 1, room);
-    let dropped = number - 1 - scheduler_state::gone(scheduler.tallies);
+    let dropped = number - 1 - scheduler.tallies.gone();
     let time = units::transmission_time(scheduler.settings, packet.length);
     let less = room::difference_of(turn + 1, room);
     let extra = scheduler.extra.first;

@@ -31,17 +31,14 @@ fn overdue(scheduler: Scheduler, arrival: Instant, at: Instant) -> bool
     requires { Counted scheduler.tallies }
     ensures { result ≡ overdue_of scheduler arrival at }
 {
-    scheduler_state::waits(scheduler.tallies) && due(scheduler.line, arrival) < at
+    scheduler.tallies.waits() && due(scheduler.line, arrival) < at
 }
 
 // Whether a marked packet's transmission time is above alpha.
 fn too_long(settings: Settings, marking: Marking, length: Bytes) -> bool
     ensures { result ≡ outlasts (terms_of settings) marking length.0 }
 {
-    match marking {
-        Marking::Unmarked => false,
-        Marking::Marked => { settings.alpha < units::transmission_time(settings, length) }
-    }
+    marking == Marking::Marked && settings.alpha < units::transmission_time(settings, length)
 }
 
 // Judges an advance. An arrival's instant is judged the same way.
@@ -78,10 +75,10 @@ pub fn judge_arrival(
     if overdue(scheduler, arrival, at) {
         return Err(Refusal::Overdue);
     }
-    if WAITING_MOST <= scheduler_state::waiting(marking, scheduler.tallies) {
+    if WAITING_MOST <= scheduler.tallies.waiting(marking) {
         return Err(Refusal::RoomFull);
     }
-    if ADMISSIONS_MOST <= scheduler_state::admissions(scheduler.tallies) {
+    if ADMISSIONS_MOST <= scheduler.tallies.admissions() {
         return Err(Refusal::NumbersUsed);
     }
     Ok(())
