@@ -1,69 +1,72 @@
-// The whole run on bytes, image in and text out: `whole_run` is a public call.
+// The whole run on bytes, image in and text out: `tell` and, for C hosts, `whole_run` are public calls.
 #![tactic(auto)]
 
-ghost use Rattle.std.specs.Prelude.{◌≡◌, ◌*◌, ◌/◌, ◌^◌, ◌≤◌, ◌<◌, pos, length};
-ghost use Rattle.run_events.specs.Trace.{trace_text};
-ghost use Rattle.run.specs.Text.{refused_text, text_of};
-ghost use Rattle.run.specs.Ran.{Answers};
+ghost use Rattle.std.specs.Prelude.{◌≡◌, ◌≤◌};
+ghost use Rattle.block_image.specs.Image.{judged};
+ghost use Rattle.text_lines.specs.Told.{Told};
+ghost use Rattle.run.specs.Text.{text_of};
+ghost use Rattle.run.specs.Most.{text_most, most_of};
+ghost use Rattle.run.specs.Ran.{Answers, Tells};
 
-use block_image::{Reading, judge_image};
+use block_image::{ImageRefusal, Trace, judge_image};
+use refusals::Refusal;
 use run_events::tell_trace;
 use text_answers::tell_refused_image;
-use units::Settings;
+
+// No image is longer: 64 blocks of 512 bytes.
+pub const IMAGE_MOST: usize = 32_768;
 
 // No event's line is longer than this, nor the tally line than that.
 const LINE_MOST: usize = 35;
 
 const TALLY_MOST: usize = 27;
 
-// The number returned where the area is shorter than the text.
-const SHORT: i64 = -32;
+// No text is longer.
+pub const TEXT_MOST: usize = 69_467;
 
-// A length as the number returned.
-fn as_result(bytes: usize) -> i64
-    requires { bytes < 2 ^ 63 }
-    ensures { result ≡ pos bytes }
+// No text of an image that is judged so is longer. A refused image's line is no longer than a tally line.
+fn most_of(judgement: Result<Trace, ImageRefusal>) -> usize
+    requires { most_of judgement ≤ text_most }
+    ensures { result ≡ most_of judgement }
 {
-    bytes as i64
+    match judgement {
+        Ok(trace) => LINE_MOST * trace.events + TALLY_MOST,
+        Err(_) => TALLY_MOST,
+    }
 }
 
-// Answers with the text of a trace. An area that is large enough for any text of so many events spares the measuring.
-fn answer_trace(image: &[u8], settings: Settings, events: usize, answer: &mut [u8]) -> i64
-    requires { (events ≤ 31 * (length image.now / 512)) × (events ≤ 1984) }
-    ensures { Answers (trace_text image.now settings events) answer.old answer.new result }
+// Tells the text of an image that is judged so.
+fn tell_judged(image: &[u8], judgement: Result<Trace, ImageRefusal>, answer: &mut [u8]) -> usize
+    requires { judgement ≡ judged image.now }
+    ensures { Told answer.old 0 (text_of image.now) answer.new result }
 {
-    if LINE_MOST * events + TALLY_MOST <= answer.len() {
-        return as_result(tell_trace(image, settings, events, answer));
+    match judgement {
+        Ok(trace) => tell_trace(image, trace.settings, trace.events, answer),
+        Err(x) => tell_refused_image(answer, 0, x.refusal, x.block, x.record),
     }
-    let mut none = [0u8; 1];
-    if answer.len() < tell_trace(image, settings, events, &mut none) {
-        return SHORT;
-    }
-    as_result(tell_trace(image, settings, events, answer))
 }
 
-// Answers with the one line of a refused image.
-fn answer_refused(number: u8, block: u32, index: u32, answer: &mut [u8]) -> i64
-    ensures { Answers (refused_text number block index) answer.old answer.new result }
+// Tells the text of an image at the start of the area, and returns the text's length; where the area is shorter than that, nothing is
+// written. An area that is large enough for any text of so many events spares the measuring.
+pub fn tell(image: &[u8], answer: &mut [u8]) -> Result<usize, Refusal>
+    ensures { Tells (text_of image.now) answer.old answer.new result }
 {
-    let mut none = [0u8; 1];
-    if answer.len() < tell_refused_image(&mut none, 0, number, block, index) {
-        return SHORT;
+    let judgement = judge_image(image);
+    if answer.len() < most_of(judgement) {
+        let mut none = [0u8; 1];
+        if answer.len() < tell_judged(image, judgement, &mut none) {
+            return Err(Refusal::AnswerShort);
+        }
     }
-    as_result(tell_refused_image(answer, 0, number, block, index))
+    Ok(tell_judged(image, judgement, answer))
 }
 
-// The whole run: the text of an image, at the start of the area. Returns the text's length, or -32 where the area is shorter than that;
-// then nothing is written.
+// The same for C hosts: the text's length, or -32 where the area is shorter than that.
 pub fn whole_run(image: &[u8], answer: &mut [u8]) -> i64
     ensures { Answers (text_of image.now) answer.old answer.new result }
 {
-    match judge_image(image) {
-        Reading::Accepted { settings, events } => answer_trace(image, settings, events, answer),
-        Reading::Refused {
-            number,
-            block,
-            record: index,
-        } => answer_refused(number, block, index, answer),
+    match tell(image, answer) {
+        Ok(length) => length as i64,
+        Err(refusal) => -(refusal as i64),
     }
 }
