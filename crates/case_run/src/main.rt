@@ -1,40 +1,22 @@
 // Runs each trace file that its arguments name, and prints the name and the text: document 01's cases and refused images.
 #![tactic(auto)]
 
-ghost use Rattle.std.specs.Prelude.{◌≤◌, length, IfOk};
-
+use input::read_full;
+use run::{IMAGE_MOST, TEXT_MOST};
 use std::env::{Env, FillError};
-use std::io::Read;
 use std::rt::Files;
 use std::{fs, io};
 
-const IMAGE_MOST: usize = 33280;
-
-const TEXT_MOST: usize = 69467;
-
-// Reads until the area is full or the input ends, and returns how many bytes stand at the area's start.
-fn read_full<R: Read>(input: &mut R, area: &mut [u8]) -> io::Result<usize>
-    ensures { IfOk result (λ n. n ≤ length area.new) }
-{
-    let mut got = 0;
-    while got < area.len() {
-        let n = input.read(&mut area[got..])?;
-        if n == 0 {
-            break;
-        }
-        got += n;
-    }
-    Ok(got)
-}
+// One byte more than the largest image is enough to know that an image is too long.
+const AREA: usize = IMAGE_MOST + 1;
 
 // Prints the text of an image, and nothing if the area were too short for it.
 fn tell(rt: &impl Print, image: &[u8]) -> io::Result<()> {
     let mut answer = [0u8; TEXT_MOST];
-    let result = run::whole_run(image, &mut answer);
-    if result < 0 {
-        return Ok(());
+    match run::tell(image, &mut answer) {
+        Ok(length) => rt.write_all(&answer[..length]),
+        Err(_) => Ok(()),
     }
-    rt.write_all(&answer[..result as usize])
 }
 
 fn tell_file(rt: &(impl Files + Print + Eprint), path: &str) -> io::Result<()> {
@@ -43,7 +25,7 @@ fn tell_file(rt: &(impl Files + Print + Eprint), path: &str) -> io::Result<()> {
         Ok(file) => file,
         Err(e) => return eprintln!(rt; "{path}: {e}"),
     };
-    let mut image = [0u8; IMAGE_MOST];
+    let mut image = [0u8; AREA];
     let got = read_full(&mut file, &mut image)?;
     tell(rt, &image[..got])
 }

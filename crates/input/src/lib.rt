@@ -1,0 +1,21 @@
+// Input that is read into a lent area, for the programs that take an image.
+#![tactic(auto)]
+
+ghost use Rattle.std.specs.Prelude.{◌≤◌, length, IfOk};
+
+use std::io;
+use std::io::Read;
+
+// Reads until the area is full or the input ends, and returns how many bytes stand at the area's start.
+pub fn read_full<R: Read>(input: &mut R, area: &mut [u8]) -> io::Result<usize>
+    ensures { IfOk result (λ n. n ≤ length area.new) }
+{
+    let mut got = 0;
+    while got < area.len() {
+        match input.read(&mut area[got..])? {
+            0 => break,
+            n => got += n,
+        }
+    }
+    Ok(got)
+}
