@@ -1,7 +1,0 @@
--- Three long numbers, one behind the other.
-use Rattle.room.specs.Room.{with_kept}
-use Rattle.scheduler_kept.proofs.keep_extra.Goals as goal
-
-pub returns : goal.returns
-unfolding with_kept
-returns c = simp (c.keep_long-3.ensures, c.keep_long-2.ensures, c.keep_long.ensures)
