@@ -8,6 +8,7 @@ use Call::{Advance, Marked, Unmarked};
 use room::{Packet, Room};
 use scheduler_state::Scheduler;
 use std::io;
+use text_digits::Area;
 use units::{Bytes, Instant, Marking, Settings, Ticks};
 
 // No line is longer.
@@ -21,10 +22,10 @@ enum Call {
     Advance(u64),
 }
 
-// Prints a line that was told to an area and ends there; one that did not fit is left out.
-fn print(rt: &impl Print, line: &[u8], end: usize) -> io::Result<()> {
-    if end <= line.len() {
-        rt.write_all(&line[..end])?;
+// Prints a line that was told to an area; one that did not fit is left out.
+fn print(rt: &impl Print, line: &Area) -> io::Result<()> {
+    if line.at <= line.out.len() {
+        rt.write_all(&line.out[..line.at])?;
     }
     Ok(())
 }
@@ -49,10 +50,13 @@ impl Line {
         };
         let arrived = scheduler::arrive(self.scheduler, packet, &mut self.room);
         self.scheduler = arrived.scheduler;
-        let answer = arrived.answer;
-        let mut line = [0u8; LINE_MOST];
-        let end = text_answers::tell_admission(&mut line, 0, answer);
-        print(rt, &line, end)
+        let mut bytes = [0u8; LINE_MOST];
+        let mut line = Area {
+            out: &mut bytes,
+            at: 0,
+        };
+        text_answers::tell_admission(&mut line, arrived.answer);
+        print(rt, &line)
     }
 
     fn advance(&mut self, rt: &impl Print, at: u64) -> io::Result<()>
@@ -61,10 +65,13 @@ impl Line {
     {
         let advanced = scheduler::advance(self.scheduler, Instant(at), &self.room);
         self.scheduler = advanced.scheduler;
-        let answer = advanced.answer;
-        let mut line = [0u8; LINE_MOST];
-        let end = text_answers::tell_advance(&mut line, 0, answer);
-        print(rt, &line, end)
+        let mut bytes = [0u8; LINE_MOST];
+        let mut line = Area {
+            out: &mut bytes,
+            at: 0,
+        };
+        text_answers::tell_advance(&mut line, advanced.answer);
+        print(rt, &line)
     }
 
     // One call, and its line.
@@ -93,10 +100,13 @@ fn play(rt: &impl Print, first: &[Call], others: &[Call]) -> io::Result<()> {
     for call in first.iter().chain(others) {
         played.call(rt, *call)?;
     }
-    let mut line = [0u8; LINE_MOST];
-    let tallies = played.scheduler.tallies;
-    let end = text_answers::tell_tallies(&mut line, 0, tallies);
-    print(rt, &line, end)
+    let mut bytes = [0u8; LINE_MOST];
+    let mut line = Area {
+        out: &mut bytes,
+        at: 0,
+    };
+    text_answers::tell_tallies(&mut line, played.scheduler.tallies);
+    print(rt, &line)
 }
 
 // u50@0, m60@0, u40@0, a0, a50, m45@60, u30@70, u10@125, a110, a150, m101@160, u20@160, a170, m30@165.

@@ -12,6 +12,7 @@ use block_image::{ImageRefusal, Trace, judge_image};
 use refusals::Refusal;
 use run_events::tell_trace;
 use text_answers::tell_refused_image;
+use text_digits::Area;
 
 // No image is longer: 64 blocks of 512 bytes.
 pub const IMAGE_MOST: usize = 32_768;
@@ -42,7 +43,11 @@ fn tell_judged(image: &[u8], judgement: Result<Trace, ImageRefusal>, answer: &mu
 {
     match judgement {
         Ok(trace) => tell_trace(image, trace.settings, trace.events, answer),
-        Err(x) => tell_refused_image(answer, 0, x.refusal, x.block, x.record),
+        Err(x) => {
+            let mut area = Area { out: answer, at: 0 };
+            tell_refused_image(&mut area, x.refusal, x.block, x.record);
+            area.at
+        },
     }
 }
 

@@ -1,7 +1,5 @@
 -- What the scheduler's promises say of one event's line. Assumes nothing.
 use mathlib.Core.Path.{◌≡◌, refl, sym, ap, subst, subst⁻¹, ◌∙◌}
-use mathlib.Core.List.{List}
-use Prim.Native.Nat.{ℕ}
 use Rattle.units.specs.declared.Instant.{Instant}
 use Rattle.rules.specs.Step.{Call, advance}
 use Rattle.room.specs.declared.Packet.{Packet}
@@ -13,39 +11,39 @@ use Rattle.scheduler_answers.specs.Values.{admission_values, advance_values}
 use Rattle.scheduler.specs.Steps.{arrival_of}
 use Rattle.scheduler.specs.Promises.{Arrives, Advances}
 use Rattle.text.specs.Text.{values_text}
-use Rattle.text_lines.specs.Told.{Told}
+use Rattle.text_digits.specs.declared.Area.{Area}
+use Rattle.text_lines.specs.Told.{Tells}
 use Rattle.block_record.specs.declared.Event.{Event}
-use Rattle.run_events.specs.declared.Played.{Played}
 use Rattle.run_events.specs.declared.Coming.{Coming}
 use Rattle.run_events.specs.Calls.{call_of, coming_call}
 use Rattle.run_events.specs.Plays.{Plays}
 
-pub arrival_plays : (l m : List ℕ) (at : ℕ) (s : Scheduler) (r : Room) (p : Packet) (x : Arrived) (left : Room) (next : ℕ)
-    → Arrives s r p x left → Told l at (values_text (admission_values x.answer)) m next
-    → Plays l at m s r (arrival_of p) (record { next = next; scheduler = x.scheduler }) left
-arrival_plays l m at s r p x left next a h =
+pub arrival_plays : (a b : Area) (s : Scheduler) (r : Room) (p : Packet) (x : Arrived) (left : Room)
+    → Arrives s r p x left → Tells a (values_text (admission_values x.answer)) b
+    → Plays a b s r (arrival_of p) x.scheduler left
+arrival_plays a b s r p x left arrives h =
     record {
-      line = subst (λ (y : Arrived). Told l at (values_text (admission_values y.answer)) m next) a.value h;
-      scheduler = ap (λ (y : Arrived). y.scheduler) a.value;
-      room = a.room;
-      kept = a.kept;
+      line = subst (λ (y : Arrived). Tells a (values_text (admission_values y.answer)) b) arrives.value h;
+      scheduler = ap (λ (y : Arrived). y.scheduler) arrives.value;
+      room = arrives.room;
+      kept = arrives.kept;
     }
 
-pub advance_plays : (l m : List ℕ) (at : ℕ) (s : Scheduler) (r : Room) (t : Instant) (x : Advanced) (next : ℕ)
-    → Advances s r t x → Told l at (values_text (advance_values x.answer)) m next
-    → Plays l at m s r (advance t.0) (record { next = next; scheduler = x.scheduler }) r
-advance_plays l m at s r t x next a h =
+pub advance_plays : (a b : Area) (s : Scheduler) (r : Room) (t : Instant) (x : Advanced)
+    → Advances s r t x → Tells a (values_text (advance_values x.answer)) b
+    → Plays a b s r (advance t.0) x.scheduler r
+advance_plays a b s r t x advances h =
     record {
-      line = subst (λ (y : Advanced). Told l at (values_text (advance_values y.answer)) m next) a.value h;
-      scheduler = ap (λ (y : Advanced). y.scheduler) a.value;
+      line = subst (λ (y : Advanced). Tells a (values_text (advance_values y.answer)) b) advances.value h;
+      scheduler = ap (λ (y : Advanced). y.scheduler) advances.value;
       room = refl;
-      kept = a.kept;
+      kept = advances.kept;
     }
 
-pub event_plays : {l m : List ℕ} {at : ℕ} {s : Scheduler} {r : Room} {e f : Event} {x : Played} {left : Room} → e ≡ f
-    → Plays l at m s r (call_of f) x left → Plays l at m s r (call_of e) x left
-event_plays {l} {m} {at} {s} {r} {e} {f} {x} {left} h p = subst⁻¹ (λ (g : Event). Plays l at m s r (call_of g) x left) h p
+pub event_plays : {a b : Area} {s : Scheduler} {r : Room} {e f : Event} {x : Scheduler} {left : Room} → e ≡ f
+    → Plays a b s r (call_of f) x left → Plays a b s r (call_of e) x left
+event_plays {a} {b} {s} {r} {e} {f} {x} {left} h p = subst⁻¹ (λ (g : Event). Plays a b s r (call_of g) x left) h p
 
-pub coming_plays : {l m : List ℕ} {at : ℕ} {s : Scheduler} {r : Room} {x : Played} {left : Room} (e : Event) (y z : Coming) → coming_call y ≡ call_of e → y ≡ z
-    → Plays l at m s r (coming_call z) x left → Plays l at m s r (call_of e) x left
-coming_plays {l} {m} {at} {s} {r} {x} {left} e y z h k p = subst (λ (c : Call). Plays l at m s r c x left) (ap coming_call (sym k) ∙ h) p
+pub coming_plays : {a b : Area} {s : Scheduler} {r : Room} {x : Scheduler} {left : Room} (e : Event) (y z : Coming) → coming_call y ≡ call_of e → y ≡ z
+    → Plays a b s r (coming_call z) x left → Plays a b s r (call_of e) x left
+coming_plays {a} {b} {s} {r} {x} {left} e y z h k p = subst (λ (c : Call). Plays a b s r c x left) (ap coming_call (sym k) ∙ h) p

@@ -15,9 +15,9 @@ use Rattle.room.specs.declared.Room.{Room}
 use Rattle.scheduler_state.specs.declared.Scheduler.{Scheduler}
 use Rattle.scheduler.specs.Machine.{made, scheduler_after, room_after, values_by, FromOpening}
 use Rattle.text.specs.Text.{values_text}
-use Rattle.text_lines.specs.Told.{Told}
-use Rattle.text_lines.proofs.Tells.{told_then}
-use Rattle.run_events.specs.declared.Played.{Played}
+use Rattle.text_digits.specs.declared.Area.{Area}
+use Rattle.text_lines.specs.Told.{Tells}
+use Rattle.text_lines.proofs.Tells.{tells_none, tells_then}
 use Rattle.run_events.specs.Calls.{call_of}
 use Rattle.run_events.specs.Trace.{calls_of}
 use Rattle.run_events.specs.Plays.{Plays}
@@ -56,12 +56,12 @@ module _ (image : List ℕ) (s : Scheduler) (r : Room) where
   grows i (suc n) h = grows-by i n (leb i n) refl h (grows i n)
 
   -- One event played, from where the first k have led.
-  module _ (k : ℕ) (then : Scheduler) (room left : Room) (e : Event) (x : Played) (answer after : List ℕ) (next : ℕ)
-      (before : Reached image s r k then room) (is : e ≡ event_at image k) (plays : Plays answer next after then room (call_of e) x left) where
-    at : Plays answer next after then room (call_of (event_at image k)) x left
+  module _ (k : ℕ) (then : Scheduler) (room left : Room) (e : Event) (x : Scheduler) (a b : Area)
+      (before : Reached image s r k then room) (is : e ≡ event_at image k) (plays : Plays a b then room (call_of e) x left) where
+    at : Plays a b then room (call_of (event_at image k)) x left
     at = event_plays (sym is) plays
 
-    pub reached-more : Reached image s r (k + 1) x.scheduler left
+    pub reached-more : Reached image s r (k + 1) x left
     reached-more =
         rw (add-one k)
         (record {
@@ -74,8 +74,8 @@ module _ (image : List ℕ) (s : Scheduler) (r : Room) where
     values : (made then room (call_of (event_at image k))).values ≡ values_at k
     values = rw (before.scheduler, before.room)
 
-    pub line-told : Told answer next (values_text (values_at k)) after x.next
-    line-told = subst (λ (v : List ℕ). Told answer next (values_text v) after x.next) values at.line
+    pub line-told : Tells a (values_text (values_at k)) b
+    line-told = subst (λ (v : List ℕ). Tells a (values_text v) b) values at.line
 
 -- Before the first event.
 pub reached-none : (image : List ℕ) (s : Scheduler) (r : Room) → FromOpening s r → Reached image s r 0 s r
@@ -86,27 +86,22 @@ pub text_none : (image : List ℕ) (s : Scheduler) (r : Room) → events_text im
 unfolding rows values_by
 text_none image s r = refl
 
-pub told_none : (image : List ℕ) (s : Scheduler) (r : Room) (l : List ℕ) → Told l 0 (events_text image s r 0) l 0
-told_none image s r l = rw (text_none image s r) (record { place = refl; stored = λ h. refl })
-
--- The first k events were played from the scheduler s and the room r, and their lines told to an area that held l.
-pub record SoFar (image : List ℕ) (s : Scheduler) (r : Room) (l : List ℕ) (k : ℕ) (then : Scheduler) (room : Room) (answer : List ℕ) (next : ℕ) : Type 0 where
+-- The first k events were played from the scheduler s and the room r, and their lines told to an area that was a before.
+pub record SoFar (image : List ℕ) (s : Scheduler) (r : Room) (a : Area) (k : ℕ) (then : Scheduler) (room : Room) (area : Area) : Type 0 where
   pub reached : Reached image s r k then room
-  pub told : Told l 0 (events_text image s r k) answer next
-  pub kept : length answer ≡ length l
+  pub told : Tells a (events_text image s r k) area
 
-pub so_far_none : (image : List ℕ) (s : Scheduler) (r : Room) (l : List ℕ) → FromOpening s r → SoFar image s r l 0 s r l 0
-so_far_none image s r l h = record { reached = reached-none image s r h; told = told_none image s r l; kept = refl }
+pub so_far_none : (image : List ℕ) (s : Scheduler) (r : Room) (a : Area) → FromOpening s r → SoFar image s r a 0 s r a
+so_far_none image s r a h = record { reached = reached-none image s r h; told = rw (text_none image s r) (tells_none a) }
 
-pub so_far_more : (image : List ℕ) (s : Scheduler) (r : Room) (l : List ℕ) (k : ℕ) (then : Scheduler) (room left : Room) (answer after : List ℕ) (next : ℕ)
-    (e : Event) (x : Played) (y : Scheduler) → SoFar image s r l k then room answer next → e ≡ event_at image k → Plays answer next after then room (call_of e) x left
-    → length after ≡ length answer → y ≡ x.scheduler → SoFar image s r l (k + 1) y left after x.next
-so_far_more image s r l k then room left answer after next e x y h is plays same copy =
+pub so_far_more : (image : List ℕ) (s : Scheduler) (r : Room) (a : Area) (k : ℕ) (then : Scheduler) (room left : Room) (area after : Area)
+    (e : Event) (x y : Scheduler) → SoFar image s r a k then room area → e ≡ event_at image k → Plays area after then room (call_of e) x left
+    → y ≡ x → SoFar image s r a (k + 1) y left after
+so_far_more image s r a k then room left area after e x y h is plays copy =
     rw copy
     (record {
-      reached = reached-more image s r k then room left e x answer after next h.reached is plays;
+      reached = reached-more image s r k then room left e x area after h.reached is plays;
       told =
           rw (add-one k, text_next image s r k)
-          (told_then h.told h.kept (line-told image s r k then room left e x answer after next h.reached is plays));
-      kept = omega (arith, h.kept);
+          (tells_then h.told (line-told image s r k then room left e x area after h.reached is plays));
     })

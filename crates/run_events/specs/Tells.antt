@@ -3,8 +3,8 @@ use Rattle.std.specs.Prelude.{◌≡◌, List, ℕ}
 use Rattle.room.specs.declared.Room.{Room}
 use Rattle.scheduler_state.specs.declared.Scheduler.{Scheduler}
 use Rattle.scheduler.specs.Machine.{scheduler_after, room_after, values_by, FromOpening}
+use Rattle.text_digits.specs.declared.Area.{Area}
 use Rattle.text_lines.specs.Told as text
-use Rattle.run_events.specs.declared.Played.{Played}
 use Rattle.text.specs.Text.{lines_text}
 use Rattle.run_events.specs.Trace.{calls_of}
 
@@ -18,7 +18,7 @@ pub record Reached (image : List ℕ) (s : Scheduler) (r : Room) (k : ℕ) (then
   pub room : left ≡ room_after s r (calls_of image k)
   pub kept : FromOpening then left
 
--- The events' text was told to the area.
-pub record Tells (image : List ℕ) (k : ℕ) (s : Scheduler) (r : Room) (before after : List ℕ) (x : Played) : Type 0 where
-  pub told : text.Told before 0 (events_text image s r k) after x.next
-  pub scheduler : x.scheduler ≡ scheduler_after s r (calls_of image k)
+-- The events' text was told to the area, and the scheduler has come to `then`.
+pub record Tells (image : List ℕ) (k : ℕ) (s : Scheduler) (r : Room) (before after : Area) (then : Scheduler) : Type 0 where
+  pub told : text.Tells before (events_text image s r k) after
+  pub scheduler : then ≡ scheduler_after s r (calls_of image k)

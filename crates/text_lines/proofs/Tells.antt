@@ -1,13 +1,13 @@
--- Texts told one after the other, and the parts of a line with words. Assumes nothing.
-use mathlib.Core.Path.{◌≡◌}
-use mathlib.Core.List.{List, [], ◌∷◌, ◌++◌, append_assoc}
+-- Texts told one after the other. Assumes nothing.
+use mathlib.Core.Path.{◌≡◌, refl, ◌∙◌}
+use mathlib.Core.List.{List, [], ◌++◌}
 use Prim.Native.Nat.{ℕ, ◌+◌, ◌<◌}
 use native.Mathlib.Omega.{arith}
 use lib.ListN.{length, length-append}
-use Rattle.text.specs.Text.{decimal, hexadecimal, field_text, fields_text, word_text, words_text, worded_text}
-use Rattle.text_digits.specs.Put.{Put}
-use Rattle.text_digits.proofs.Puts.{put_then}
-use Rattle.text_lines.specs.Told.{Told}
+use Rattle.text_digits.specs.declared.Area.{Area}
+use Rattle.text_digits.specs.Put.{Put, Puts}
+use Rattle.text_digits.proofs.Puts.{put_then, put_length}
+use Rattle.text_lines.specs.Told.{Told, Tells}
 
 -- A text that was put was told.
 pub told-put : {l m : List ℕ} {at p : ℕ} {xs : List ℕ} → Put l at xs m p → Told l at xs m p
@@ -30,12 +30,19 @@ told_then {l} {m} {n} {at} {p} {q} {xs} {ys} a e b =
           ).stored;
     }
 
-pub worded_parts : (letter a b c d : ℕ) → worded_text letter (a ∷ b ∷ []) (c ∷ d ∷ []) ≡ letter ∷ (field_text a ++ (field_text b ++ (word_text c ++ (word_text d ++ 10 ∷ []))))
-worded_parts letter a b c d =
-    let words = words_text (c ∷ d ∷ []) ++ 10 ∷ [] in
-    rw (
-      append_assoc (decimal a) (fields_text (b ∷ [])) words,
-      append_assoc (decimal b) [] words,
-      append_assoc (hexadecimal c) (words_text (d ∷ [])) (10 ∷ []),
-      append_assoc (hexadecimal d) [] (10 ∷ []),
-    )
+-- The same of areas.
+pub tells_put : {a b : Area} {xs : List ℕ} → Puts a xs b → Tells a xs b
+tells_put p = record { told = told-put p.put; long = put_length p.put; lent = p.lent }
+
+pub tells_only : {a : Area} {p : ℕ} {xs : List ℕ} → p ≡ a.at + length xs → length a.out.now < a.at + length xs → Tells a xs (record a { at = p })
+tells_only e h = record { told = told_only e h; long = refl; lent = refl }
+
+pub tells_none : (a : Area) → Tells a [] a
+tells_none a = record { told = record { place = omega arith; stored = λ h. refl }; long = refl; lent = refl }
+
+pub tells_then : {a b c : Area} {xs ys : List ℕ} → Tells a xs b → Tells b ys c → Tells a (xs ++ ys) c
+tells_then p q = record { told = told_then p.told p.long q.told; long = q.long ∙ p.long; lent = q.lent ∙ p.lent }
+
+-- What was lent to an area has then what the area had.
+pub told_back : {a b : Area} {l : List ℕ} {xs : List ℕ} → Tells a xs b → l ≡ b.out.now → Told a.out.now a.at xs l b.at
+told_back {a} {b} {l} {xs} t e = rw e t.told

@@ -12,7 +12,7 @@ pub play-played-requires : goal.play-played-requires
 play-played-requires c =
     let so = c.loop-i.invariant.1 in
     let most = events-most c.args.image.now c.args.scheduler c.args.room.now (31 * c.loop-block.block + c.loop-i.i) in
-    (so.reached.kept, omega (arith, so.told.place))
+    (so.reached.kept, omega (arith, so.told.told.place, c.requires.from_start))
 
 pub loop-i-preserved : goal.loop-i-preserved
 loop-i-preserved c =
@@ -22,6 +22,6 @@ loop-i-preserved c =
     let next : 31 * c.loop-block.block + (l.i + 1) ≡ k + 1 = omega arith in (
       refl,
       rw next
-          (so_far_more c.args.image.now c.args.scheduler c.args.room.now c.args.answer.now k l.so_far.scheduler l.room p.new.room l.answer _ l.so_far.next
-          c.event_in-event.result p.result _ l.invariant.1 c.event_in-event.ensures p.ensures p.auto.answer c.copied.ensures),
+          (so_far_more c.args.image.now c.args.scheduler c.args.room.now c.args.area.now k l.then l.room p.new.room l.area _
+          c.event_in-event.result p.result _ l.invariant.1 c.event_in-event.ensures p.ensures c.copied-then.ensures),
     )

@@ -6,8 +6,8 @@ use Rattle.run_events.proofs.tell_events.Given as goal
 abbrev pub invariant-loop-i : goal.invariant-loop-i
 invariant-loop-i l =
     (l.left ≡ l.events - 31 * l.block)
-    × SoFar l.image l.fn.scheduler l.fn.room l.fn.answer (31 * l.block + l.i) l.so_far.scheduler l.room l.answer l.so_far.next
+    × SoFar l.image l.fn.scheduler l.fn.room l.fn.area (31 * l.block + l.i) l.then l.room l.area
 
 abbrev pub invariant-loop-block : goal.invariant-loop-block
 invariant-loop-block l =
-    SoFar l.image l.fn.scheduler l.fn.room l.fn.answer (min (31 * l.block) l.events) l.so_far.scheduler l.room l.answer l.so_far.next
+    SoFar l.image l.fn.scheduler l.fn.room l.fn.area (min (31 * l.block) l.events) l.then l.room l.area

@@ -1,13 +1,19 @@
--- The loop takes the last digit off, and ends at one digit. Assumes nothing.
-use Rattle.std.proofs.Common.{ap, arith, length}
-use Rattle.text.proofs.Digits.{one-digit, length_last, decimal-most}
+-- A number of k digits and one is at least 10^k. Assumes nothing.
+use Rattle.std.proofs.Common.{arith}
+use Rattle.text.proofs.Digits.{decimal-one, decimal-exact}
 use Rattle.text_digits.proofs.decimal_length.Goals as goal
 
-pub overflow_add-digits : goal.overflow_add-digits
-overflow_add-digits c = omega (arith, decimal-most c.args.v)
+pub returns-in-0-to-9 : goal.returns-in-0-to-9
+returns-in-0-to-9 c = decimal-one c.args.v (omega arith)
 
-pub loop-rest-preserved : goal.loop-rest-preserved
-loop-rest-preserved c = omega (arith, length_last c.loop-rest.rest c.loop-rest-test.true (omega arith))
+pub returns-in-10-to-99 : goal.returns-in-10-to-99
+returns-in-10-to-99 c = decimal-exact 1 c.args.v (omega arith) (omega arith) (omega arith)
 
-pub returns : goal.returns
-returns c = omega (arith, ap length (one-digit c.loop-rest.rest c.loop-rest-test.false))
+pub returns-in-100-to-999 : goal.returns-in-100-to-999
+returns-in-100-to-999 c = decimal-exact 2 c.args.v (omega arith) (omega arith) (omega arith)
+
+pub returns-in-1000-to-9999 : goal.returns-in-1000-to-9999
+returns-in-1000-to-9999 c = decimal-exact 3 c.args.v (omega arith) (omega arith) (omega arith)
+
+pub returns-in_default : goal.returns-in_default
+returns-in_default c = decimal-exact c.ilog10.result c.args.v c.ilog10.ensures.bound c.ilog10.ensures.power_le c.ilog10.ensures.next_power_gt
