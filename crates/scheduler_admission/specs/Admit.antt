@@ -12,7 +12,7 @@ use Rattle.scheduler_state.specs.Counts.{admissions_of, waiting_of}
 use Rattle.scheduler_state.specs.Delays.{own_of}
 use Rattle.scheduler_admission.specs.Admitted.{admitted_unmarked, admitted_marked}
 use Rattle.scheduler_answers.specs.declared.Admitted.{Admitted}
-use Rattle.scheduler_answers.specs.declared.Arrived.{Arrived}
+use Rattle.scheduler_answers.specs.Answers.{Arrived}
 use Rattle.scheduler_answers.specs.Packets.{time_of}
 
 -- The extra delay of a new unmarked packet.

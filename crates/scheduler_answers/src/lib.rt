@@ -6,23 +6,25 @@ use room::Packet;
 use scheduler_state::Scheduler;
 use units::{Instant, Ticks};
 
+// What a call answers, and the scheduler from there on.
 #[derive(Clone, Copy)]
-pub struct Opened {
-    pub answer: Result<(), Refusal>,
+pub struct Answered<A> {
+    pub answer: Result<A, Refusal>,
     pub scheduler: Scheduler,
 }
+
+pub type Opened = Answered<()>;
+
+pub type Arrived = Answered<Admitted>;
+
+// Where nothing was due there is no start.
+pub type Advanced = Answered<Option<Start>>;
 
 // An admission: the packet's number and, if it is unmarked, its extra delay.
 #[derive(Clone, Copy)]
 pub enum Admitted {
     Unmarked { number: u32, extra: Ticks },
     Marked { number: u32 },
-}
-
-#[derive(Clone, Copy)]
-pub struct Arrived {
-    pub answer: Result<Admitted, Refusal>,
-    pub scheduler: Scheduler,
 }
 
 // A start: the packet's number, the instant, its extra delay then (0 if marked), how many packets were dropped, and the packet.
@@ -33,11 +35,4 @@ pub struct Start {
     pub extra: Ticks,
     pub dropped: u32,
     pub packet: Packet,
-}
-
-// An accepted advance answers with its start, or with none where nothing was due.
-#[derive(Clone, Copy)]
-pub struct Advanced {
-    pub answer: Result<Option<Start>, Refusal>,
-    pub scheduler: Scheduler,
 }

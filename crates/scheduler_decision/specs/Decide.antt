@@ -11,7 +11,7 @@ use Rattle.scheduler_state.specs.Pick.{pick, by_marking}
 use Rattle.scheduler_state.specs.Counts.{gone_of, waiting_of}
 use Rattle.scheduler_state.specs.Delays.{fits_of}
 use Rattle.scheduler_decision.specs.Started.{started_marked, started_unmarked}
-use Rattle.scheduler_answers.specs.declared.Advanced.{Advanced}
+use Rattle.scheduler_answers.specs.Answers.{Advanced}
 use Rattle.scheduler_answers.specs.Packets.{time_of}
 
 -- A marked packet at the head starts if it fits.
