@@ -12,7 +12,7 @@ use Rattle.scheduler_state.specs.declared.Scheduler.{Scheduler}
 use Rattle.scheduler_state.specs.Pick.{pick}
 use Rattle.scheduler_answers.specs.declared.Decision.{Decision}
 use Rattle.scheduler_answers.specs.declared.Outcome.{Outcome}
-use Rattle.scheduler_answers.specs.declared.Advanced.{Advanced}
+use Rattle.scheduler_answers.specs.Answers.{Advanced}
 use Rattle.scheduler_answers.specs.Values.{advance_values, advance_numbers, handed}
 use Rattle.scheduler.specs.Steps.{Steps}
 use Rattle.scheduler.specs.Promises.{Advances}

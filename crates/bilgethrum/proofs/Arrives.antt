@@ -11,7 +11,7 @@ use Rattle.room.specs.declared.Room.{Room}
 use Rattle.scheduler_state.specs.declared.Scheduler.{Scheduler}
 use Rattle.scheduler_state.specs.Pick.{pick}
 use Rattle.scheduler_answers.specs.declared.Admission.{Admission}
-use Rattle.scheduler_answers.specs.declared.Arrived.{Arrived}
+use Rattle.scheduler_answers.specs.Answers.{Arrived}
 use Rattle.scheduler_answers.specs.Values.{admission_values, admission_numbers}
 use Rattle.scheduler.specs.Calls.{arrive_room}
 use Rattle.scheduler.specs.Steps.{arrival_of, Steps}

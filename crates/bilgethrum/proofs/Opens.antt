@@ -3,7 +3,7 @@ use mathlib.Core.Path.{◌≡◌, refl, ap, subst⁻¹, ◌∙◌}
 use Prim.Native.Nat.{ℕ}
 use Rattle.room.specs.declared.Room.{Room}
 use Rattle.room.specs.Held.{Sized}
-use Rattle.scheduler_answers.specs.declared.Opened.{Opened}
+use Rattle.scheduler_answers.specs.Answers.{Opened}
 use Rattle.scheduler_answers.specs.Values.{opening_number}
 use Rattle.scheduler.specs.Machine.{Alike}
 use Rattle.scheduler.specs.Promises.{Opens}

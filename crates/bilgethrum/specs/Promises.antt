@@ -10,9 +10,9 @@ use Rattle.room.specs.Room.{with_kept}
 use Rattle.room.specs.Held.{Sized}
 use Rattle.scheduler_state.specs.declared.Scheduler.{Scheduler}
 use Rattle.scheduler_state.specs.Pick.{pick}
-use Rattle.scheduler_answers.specs.declared.Opened.{Opened}
-use Rattle.scheduler_answers.specs.declared.Arrived.{Arrived}
-use Rattle.scheduler_answers.specs.declared.Advanced.{Advanced}
+use Rattle.scheduler_answers.specs.Answers.{Opened}
+use Rattle.scheduler_answers.specs.Answers.{Arrived}
+use Rattle.scheduler_answers.specs.Answers.{Advanced}
 use Rattle.scheduler_answers.specs.Values.{opening_number, admission_values, admission_numbers, advance_values, advance_numbers, handed}
 use Rattle.scheduler.specs.Calls.{open_of, arrive_of, arrive_room, advance_of}
 use Rattle.scheduler.specs.Machine.{FromOpening, terms_by, line_by}

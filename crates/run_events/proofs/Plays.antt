@@ -5,8 +5,8 @@ use Rattle.rules.specs.Step.{Call, advance}
 use Rattle.room.specs.declared.Packet.{Packet}
 use Rattle.room.specs.declared.Room.{Room}
 use Rattle.scheduler_state.specs.declared.Scheduler.{Scheduler}
-use Rattle.scheduler_answers.specs.declared.Arrived.{Arrived}
-use Rattle.scheduler_answers.specs.declared.Advanced.{Advanced}
+use Rattle.scheduler_answers.specs.Answers.{Arrived}
+use Rattle.scheduler_answers.specs.Answers.{Advanced}
 use Rattle.scheduler_answers.specs.Values.{admission_values, advance_values}
 use Rattle.scheduler.specs.Steps.{arrival_of}
 use Rattle.scheduler.specs.Promises.{Arrives, Advances}

@@ -11,7 +11,7 @@ use Rattle.rules.specs.Open.{opening}
 use Rattle.room.specs.declared.Room.{Room}
 use Rattle.room.specs.Held.{Sized}
 use Rattle.scheduler_state.specs.declared.Scheduler.{Scheduler}
-use Rattle.scheduler_answers.specs.declared.Opened.{Opened}
+use Rattle.scheduler_answers.specs.Answers.{Opened}
 use Rattle.scheduler.specs.Calls.{open_of}
 use Rattle.scheduler_answers.specs.Values.{tally_values}
 use Rattle.scheduler.specs.Machine.{scheduler_after}
