@@ -49,21 +49,22 @@ opens asked before r left e f =
     }
 
 -- What an opening does once it is judged.
-module _ (asked : Flows) where
+module _ (asked : Flows) (judged : Result (Unit {0}) Refusal) (is : judged ≡ open_of asked) where
   -- Where it is not refused, there are words for every flow.
-  pub open_fits : open_of asked ≡ Ok tt → asked.count ≤ flows_most
+  pub open_fits : judged ≡ Ok tt → asked.count ≤ flows_most
   open_fits e =
-      let taken = in_range_lem (flows_of asked) (given-none (open_refusal asked) tt tt e) in
+      let taken = in_range_lem (flows_of asked) (given-none (open_refusal asked) tt tt (sym is ∙ e)) in
       omega (arith, taken.most, flows_counted asked)
 
-  pub open_refuses : (r : Refusal) → open_of asked ≡ Err r → (before left : Words) → left ≡ laid_all before (least_flow ∷ [])
-      → Opens asked before (Err r) left
+  pub open_refuses : (r : Refusal) → judged ≡ Err r → (before left : Words) → left ≡ laid_all before (least_flow ∷ []) → Opens asked before (Err r) left
   unfolding open_words
-  open_refuses r e before left f = opens asked before (Err r) left (sym e) (f ∙ rw (given-some (open_refusal asked) tt r e))
+  open_refuses r e before left f =
+      opens asked before (Err r) left (sym e ∙ is) (f ∙ rw (given-some (open_refusal asked) tt r (sym is ∙ e)))
 
-  pub open_takes : open_of asked ≡ Ok tt → (before left : Words) → left ≡ laid_all before (flows_of asked) → Opens asked before (Ok tt) left
+  pub open_takes : judged ≡ Ok tt → (ws : List Flow) → ws ≡ flows_of asked → (before left : Words) → left ≡ laid_all before ws → Opens asked before (Ok tt) left
   unfolding open_words
-  open_takes e before left f = opens asked before (Ok tt) left (sym e) (f ∙ rw (given-none (open_refusal asked) tt tt e))
+  open_takes e ws g before left f =
+      opens asked before (Ok tt) left (sym e ∙ is) (f ∙ rw (g, given-none (open_refusal asked) tt tt (sym is ∙ e)))
 
 -- One call more at the end of a list, on the words and on the rules' marker.
 words_more : (w : Words) (cs : List Call) (c : Call) → words_after w (cs ++ c ∷ []) ≡ mark_words (words_after w cs) c
@@ -120,19 +121,16 @@ marks w c r left o e f =
     }
 
 -- What a packet is answered once it is judged.
-module _ (w : Words) (c : Call) (o : FromOpening w) where
-  abbrev judged : Result (Unit {0}) Refusal
-  judged = answer_by (refusal_in w c) tt
-
+module _ (w : Words) (c : Call) (o : FromOpening w) (judged : Result (Unit {0}) Refusal) (is : judged ≡ answer_by (refusal_in w c) tt) where
   pub mark_refuses : (r : Refusal) → judged ≡ Err r → Marks w c (Err r) w
   unfolding mark_of mark_words
   mark_refuses r e =
-      let refused = given-some (refusal_in w c) tt r e in
+      let refused = given-some (refusal_in w c) tt r (sym is ∙ e) in
       marks w c (Err r) w o (rw refused) (rw refused)
 
   module _ (e : judged ≡ Ok tt) where
     taken : refusal_in w c ≡ none
-    taken = given-none (refusal_in w c) tt tt e
+    taken = given-none (refusal_in w c) tt tt (sym is ∙ e)
 
     -- The bucket may be looked at where the packet is not refused.
     pub mark_looks : Lookable w c.flow c.at

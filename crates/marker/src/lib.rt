@@ -80,7 +80,6 @@ fn lay(flows: &[Flow], marker: &mut Marker)
 }
 
 // A marker for these flows; where they are refused, one for a flow with rate and depth at their least.
-#[tactic(auto, using(crate::proofs::Public::open_fits, crate::proofs::Public::open_refuses, crate::proofs::Public::open_takes))]
 pub fn open(asked: Flows, marker: &mut Marker) -> Result<(), Refusal>
     ensures { Opens asked marker.old result marker.new }
 {
@@ -92,7 +91,7 @@ pub fn open(asked: Flows, marker: &mut Marker) -> Result<(), Refusal>
     Ok(())
 }
 
-// Judges a packet.
+// Judges a packet. The scheduler judges its calls' instants in the same way, but the two families have no crate in common above `units`.
 fn judge_packet(flow: u32, length: Bytes, at: Instant, marker: &Marker) -> Result<(), Refusal>
     ensures { result ≡ answer_by (refusal_in marker.now (call_of flow length.0 at.0)) tt }
 {
@@ -102,7 +101,7 @@ fn judge_packet(flow: u32, length: Bytes, at: Instant, marker: &Marker) -> Resul
     if !units::length_in_range(length) {
         return Err(Refusal::Length);
     }
-    if units::INSTANT_MOST < at.0 {
+    if !units::instant_in_range(at) {
         return Err(Refusal::Instant);
     }
     if at.0 < marker.clock {
@@ -140,7 +139,6 @@ fn hold(f: usize, held: u64, at: Instant, marker: &mut Marker)
 }
 
 // A packet at the door: it is left unmarked and paid for, it is marked and nothing is taken, or it is refused and nothing is stored.
-#[tactic(auto, using(crate::proofs::Public::mark_refuses, crate::proofs::Public::mark_looks, crate::proofs::Public::mark_pays, crate::proofs::Public::mark_marks))]
 pub fn mark(flow: u32, length: Bytes, at: Instant, marker: &mut Marker) -> Result<Marking, Refusal>
     requires { FromOpening marker.old }
     ensures { Marks marker.old (call_of flow length.0 at.0) result marker.new }

@@ -34,6 +34,16 @@ fn part(area: &[u8], length: Bytes, place: u32) -> &[u8]
     &area[from..to]
 }
 
+// The area that the marking names.
+fn area<'a>(unmarked: &'a [u8], marked: &'a [u8], marking: Marking) -> &'a [u8]
+    ensures { result ≡ area_of marking unmarked.entry marked.entry }
+{
+    match marking {
+        Marking::Unmarked => unmarked,
+        Marking::Marked => marked,
+    }
+}
+
 // The payload itself: that part of the area that the marking names, or an empty part.
 pub fn view<'a>(
     unmarked: &'a [u8],
@@ -44,10 +54,7 @@ pub fn view<'a>(
 ) -> &'a [u8]
     ensures { Viewed (area_of marking unmarked.entry marked.entry) length.0 place result }
 {
-    match marking {
-        Marking::Unmarked => part(unmarked, length, place),
-        Marking::Marked => part(marked, length, place),
-    }
+    part(area(unmarked, marked, marking), length, place)
 }
 
 // Judges the same view: what it is refused for.
@@ -60,8 +67,5 @@ pub fn judge_view<'a>(
 ) -> Result<(), Refusal>
     ensures { result ≡ answer_by (first_refusal (view_tests (area_of marking unmarked.now marked.now) length.0 place)) tt }
 {
-    match marking {
-        Marking::Unmarked => judge_part(unmarked, length, place),
-        Marking::Marked => judge_part(marked, length, place),
-    }
+    judge_part(area(unmarked, marked, marking), length, place)
 }
