@@ -15,7 +15,7 @@ use block_image::event_in;
 use block_record::Event;
 use room::{Packet, Room};
 use scheduler::{advance, arrive, open};
-use scheduler_state::{Scheduler, copied};
+use scheduler_state::Scheduler;
 use text_answers::{tell_admission, tell_advance, tell_tallies};
 use text_digits::Area;
 use units::{Instant, Marking, Settings};
@@ -101,7 +101,7 @@ fn tell_events(
         for i in 0..left.min(BLOCK_EVENTS) {
             let event = event_in(image, block, i);
             let played = play(event, then, room, area);
-            then = copied(played);
+            then = played.copied();
         }
     }
     then

@@ -42,7 +42,8 @@ pub struct Tallies {
     pub dropped: u32,
 }
 
-// The scheduler, small and by value; the packets stand in the room.
+// The scheduler, small and by value; the packets stand in the room. `Small`, which the arithmetic above asks of it, is no invariant of the type, for the
+// reason that `Counted` is none of its tallies.
 #[derive(Clone, Copy)]
 pub struct Scheduler {
     pub settings: Settings,
@@ -156,33 +157,26 @@ impl Scheduler {
         ensures { result ≡ fits_of self.settings self.extra (waiting_of Unmarked self.tallies) time }
     {
         self.tallies.waiting(Marking::Unmarked) == 0
-            || self.extra.first.0 + time.0 <= self.settings.alpha.0
+            || Ticks(self.extra.first.0 + time.0) <= self.settings.alpha
     }
-}
 
-// The same scheduler, the parts with unused bytes copied number by number. A copy of the whole moves those bytes too, and the compiler keeps
-// them in memory: in a loop each turn then waits for the copy before.
-pub fn copied(scheduler: Scheduler) -> Scheduler
-    ensures { result ≡ scheduler }
-{
-    let settings = Settings {
-        alpha: Ticks(scheduler.settings.alpha.0),
-        ticks_per_byte: scheduler.settings.ticks_per_byte,
-    };
-    let then = scheduler.line;
-    let last = then.last;
-    let line = Line {
-        free: Instant(then.free.0),
-        last,
-    };
-    let clock = scheduler.clock;
-    let extra = scheduler.extra;
-    let tallies = scheduler.tallies;
-    Scheduler {
-        settings,
-        clock,
-        line,
-        extra,
-        tallies,
+    // The same scheduler, the parts with unused bytes copied number by number. A copy of the whole, as `Clone` makes, moves those bytes too, and the
+    // compiler keeps them in memory: in a loop each turn then waits for the copy before.
+    pub fn copied(self) -> Scheduler
+        ensures { result ≡ self }
+    {
+        Scheduler {
+            settings: Settings {
+                alpha: Ticks(self.settings.alpha.0),
+                ticks_per_byte: self.settings.ticks_per_byte,
+            },
+            clock: self.clock,
+            line: Line {
+                free: Instant(self.line.free.0),
+                last: self.line.last,
+            },
+            extra: self.extra,
+            tallies: self.tallies,
+        }
     }
 }
