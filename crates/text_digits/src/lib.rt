@@ -10,7 +10,8 @@ use itoa::write_digits;
 // What stands before each number and each word.
 const SPACE: u8 = b' ';
 
-// A lent area, and the place behind the text so far.
+// A lent area, and the place behind the text so far. The place goes on beyond an area that is too short, so no bound on it holds of every value:
+// the functions that tell a line ask for one.
 #[derive(Drop)]
 pub struct Area<'a> {
     pub out: &'a mut [u8],
@@ -39,7 +40,7 @@ impl<'a> Area<'a> {
         self.at = end;
     }
 
-    // A space and a word: its four digits, zeros included.
+    // A space and a word: its four digits, zeros included. A loop over their places would be no shorter.
     pub fn put_word(&mut self, v: u16)
         requires { self.old.at + 5 ≤ length self.old.out.now }
         ensures { Puts self.old (word_text v) self.new }

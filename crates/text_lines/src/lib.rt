@@ -25,7 +25,7 @@ fn tell_byte(area: &mut Area, b: u8)
     }
 }
 
-// A space and any number. Its length is only worked out near the end of the area.
+// A space and any number. Its length is only worked out near the end of the area. It stays a call, so that a line is short.
 #[inline(never)]
 fn tell_any(area: &mut Area, v: u64)
     requires { area.old.at < 2 ^ 62 }
@@ -65,7 +65,7 @@ fn tell_word(area: &mut Area, v: u16)
     }
 }
 
-// A line of a letter, numbers and words behind them.
+// A line of a letter, numbers and words behind them: put into each caller, where the compiler unrolls it over the caller's numbers.
 #[inline(always)]
 pub fn tell_worded(area: &mut Area, letter: u8, numbers: &[u64], words: &[u16])
     requires { (area.old.at < 2 ^ 32) × (length numbers.now < 2 ^ 32) × (length words.now < 2 ^ 32) }
@@ -81,7 +81,7 @@ pub fn tell_worded(area: &mut Area, letter: u8, numbers: &[u64], words: &[u16])
     tell_byte(area, b'\n');
 }
 
-// A line of a letter and numbers.
+// A line of a letter and numbers, which is put into each caller too.
 #[inline(always)]
 pub fn tell_line(area: &mut Area, letter: u8, numbers: &[u64])
     requires { (area.old.at < 2 ^ 32) × (length numbers.now < 2 ^ 32) }
