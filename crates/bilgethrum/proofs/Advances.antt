@@ -5,13 +5,15 @@ use mathlib.Core.List.{[], ◌∷◌}
 use Prim.Native.Nat.{ℕ}
 use lib.Dec.{eqb}
 use borrow.Author.Tests.{eqb-false}
+use Rattle.std.specs.Prelude.{Option, Some, None, Result, Ok, Err}
+use Rattle.refusals.specs.declared.Refusal.{Refusal}
+use Rattle.refusals.specs.Numbers.{number}
 use Rattle.units.specs.declared.Instant.{Instant}
 use Rattle.rules.specs.Step.{advance}
 use Rattle.room.specs.declared.Room.{Room}
 use Rattle.scheduler_state.specs.declared.Scheduler.{Scheduler}
 use Rattle.scheduler_state.specs.Pick.{pick}
-use Rattle.scheduler_answers.specs.declared.Decision.{Decision}
-use Rattle.scheduler_answers.specs.declared.Outcome.{Outcome}
+use Rattle.scheduler_answers.specs.declared.Start.{Start}
 use Rattle.scheduler_answers.specs.Answers.{Advanced}
 use Rattle.scheduler_answers.specs.Values.{advance_values, advance_numbers, handed}
 use Rattle.scheduler.specs.Steps.{Steps}
@@ -25,10 +27,10 @@ use Rattle.bilgethrum.specs.Promises.{OnLine, keeping, if_accepted, advanced, ad
 use Rattle.bilgethrum.proofs.Kept.{keep_alike, steps_on}
 
 -- An answer with a refusal number is a refusal.
-refusal : (a : Outcome) → ((host_decision a).refusal ≡ 0 → ⊥) → (n : ℕ) × (advance_values a ≡ 82 ∷ n ∷ [])
-refusal (Outcome.Decided (Decision.Started x)) h = absurd (h refl)
-refusal (Outcome.Decided Decision.NothingDue) h = absurd (h refl)
-refusal (Outcome.Refused c) h = (c, refl)
+refusal : (a : Result (Option Start) Refusal) → ((host_decision a).refusal ≡ 0 → ⊥) → (n : ℕ) × (advance_values a ≡ 82 ∷ n ∷ [])
+refusal (Ok (Some x)) h = absurd (h refl)
+refusal (Ok None) h = absurd (h refl)
+refusal (Err r) h = (number r, refl)
 
 module _ (b : Room) (t : ℕ) where
   abbrev s : Scheduler

@@ -6,11 +6,14 @@ use mathlib.Core.Option.{none}
 use Prim.Native.Nat.{ℕ}
 use lib.Dec.{eqb}
 use borrow.Author.Tests.{eqb-false}
+use Rattle.std.specs.Prelude.{Result, Ok, Err}
+use Rattle.refusals.specs.declared.Refusal.{Refusal}
+use Rattle.refusals.specs.Numbers.{number}
 use Rattle.room.specs.declared.Packet.{Packet}
 use Rattle.room.specs.declared.Room.{Room}
 use Rattle.scheduler_state.specs.declared.Scheduler.{Scheduler}
 use Rattle.scheduler_state.specs.Pick.{pick}
-use Rattle.scheduler_answers.specs.declared.Admission.{Admission}
+use Rattle.scheduler_answers.specs.declared.Admitted.{Admitted}
 use Rattle.scheduler_answers.specs.Answers.{Arrived}
 use Rattle.scheduler_answers.specs.Values.{admission_values, admission_numbers}
 use Rattle.scheduler.specs.Calls.{arrive_room}
@@ -26,10 +29,10 @@ use Rattle.bilgethrum.specs.Promises.{OnLine, keeping, if_accepted, arrived, arr
 use Rattle.bilgethrum.proofs.Kept.{keep_alike, steps_on}
 
 -- An answer with a refusal number is a refusal.
-refusal : (a : Admission) → ((host_arrival a).refusal ≡ 0 → ⊥) → (n : ℕ) × (admission_values a ≡ 82 ∷ n ∷ [])
-refusal (Admission.Unmarked n e) h = absurd (h refl)
-refusal (Admission.Marked n) h = absurd (h refl)
-refusal (Admission.Refused c) h = (c, refl)
+refusal : (a : Result Admitted Refusal) → ((host_arrival a).refusal ≡ 0 → ⊥) → (n : ℕ) × (admission_values a ≡ 82 ∷ n ∷ [])
+refusal (Ok (Admitted.Unmarked n e)) h = absurd (h refl)
+refusal (Ok (Admitted.Marked n)) h = absurd (h refl)
+refusal (Err r) h = (number r, refl)
 
 module _ (b : Room) (p : HostPacket) where
   abbrev s : Scheduler

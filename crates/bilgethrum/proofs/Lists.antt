@@ -1,6 +1,8 @@
 -- Every list of calls by a C host: each call is the rules' step, and what it leaves stands for the rules' next line. Assumes nothing.
 use mathlib.Core.Path.{◌≡◌, refl, ap, ◌∙◌}
 use mathlib.Core.List.{List, [], ◌∷◌, map}
+use Rattle.std.specs.Prelude.{Option, Some, None, Result, Ok, Err}
+use Rattle.refusals.specs.declared.Refusal.{Refusal}
 use Rattle.rules.specs.Terms.{Terms}
 use Rattle.rules.specs.Line.{Line, fresh}
 use Rattle.rules.specs.Step.{step, after, answers}
@@ -8,9 +10,8 @@ use Rattle.rules.specs.Printed.{numbers_of, tally_line}
 use Rattle.rules.proofs.Opened.{opens-sound}
 use Rattle.room.specs.declared.Room.{Room}
 use Rattle.scheduler_state.specs.declared.Scheduler.{Scheduler}
-use Rattle.scheduler_answers.specs.declared.Admission.{Admission}
-use Rattle.scheduler_answers.specs.declared.Decision.{Decision}
-use Rattle.scheduler_answers.specs.declared.Outcome.{Outcome}
+use Rattle.scheduler_answers.specs.declared.Admitted.{Admitted}
+use Rattle.scheduler_answers.specs.declared.Start.{Start}
 use Rattle.scheduler_answers.specs.Values.{admission_numbers, advance_numbers, tally_values}
 use Rattle.scheduler.specs.Machine.{terms_by, line_by}
 use Rattle.scheduler.specs.Steps.{step_by}
@@ -37,15 +38,15 @@ use Rattle.bilgethrum.proofs.Advances.{advance_steps_on}
 use Rattle.bilgethrum.proofs.Opens.{opened-kept}
 
 -- The five numbers of an answer are those that the host reads.
-admission-read : (a : Admission) → arrival_read (host_arrival a) ≡ admission_numbers a
-admission-read (Admission.Unmarked n e) = refl
-admission-read (Admission.Marked n) = refl
-admission-read (Admission.Refused c) = refl
+admission-read : (a : Result Admitted Refusal) → arrival_read (host_arrival a) ≡ admission_numbers a
+admission-read (Ok (Admitted.Unmarked n e)) = refl
+admission-read (Ok (Admitted.Marked n)) = refl
+admission-read (Err r) = refl
 
-outcome_read : (a : Outcome) → decision_read (host_decision a) ≡ advance_numbers a
-outcome_read (Outcome.Decided (Decision.Started x)) = refl
-outcome_read (Outcome.Decided Decision.NothingDue) = refl
-outcome_read (Outcome.Refused c) = refl
+decision-read : (a : Result (Option Start) Refusal) → decision_read (host_decision a) ≡ advance_numbers a
+decision-read (Ok (Some x)) = refl
+decision-read (Ok None) = refl
+decision-read (Err r) = refl
 
 -- One call.
 record Stepped (b : Room) (o : OnLine b) (c : HostCall) : Type 0 where
@@ -60,7 +61,7 @@ stepped b o (arrives p) =
     record { read = admission-read (arrived b p).answer ∙ x.numbers; next = x.next; terms = x.terms; stands = x.stands }
 stepped b o (advances at) =
     let x = advance_steps_on b at o in
-    record { read = outcome_read (advanced b at).answer ∙ x.numbers; next = x.next; terms = x.terms; stands = x.stands }
+    record { read = decision-read (advanced b at).answer ∙ x.numbers; next = x.next; terms = x.terms; stands = x.stands }
 
 -- The calls cs from words that stand for the line l.
 record Follows (σ : Terms) (l : Line) (b : Room) (cs : List HostCall) : Type 0 where

@@ -1,18 +1,19 @@
 -- The marker's calls for a C host, from the marker's promises. Assumes nothing.
 use mathlib.Core.Path.{◌≡◌, refl, sym, ap, subst, subst⁻¹, ◌∙◌}
-use mathlib.Core.Bool.{Bool, true, false}
 use mathlib.Core.List.{List, [], ◌∷◌, map}
+use mathlib.Core.Option.{Option}
 use Prim.Native.Nat.{ℕ}
-use lib.Dec.{eqb}
+use Rattle.std.specs.Prelude.{Result, Ok, Err}
+use Rattle.refusals.specs.declared.Refusal.{Refusal}
+use Rattle.refusals.proofs.Named.{named_number}
+use Rattle.units.specs.declared.Marking.{Marking}
 use Rattle.marker_flows.specs.declared.Flows.{Flows}
 use Rattle.marker_rules.specs.Step.{Call}
 use Rattle.marker_rules.specs.Numbers.{numbers_of}
 use Rattle.marker_rules.specs.Told.{Told}
 use Rattle.marker_rules.specs.Promises.{Keeps}
-use Rattle.marker.specs.declared.Opening.{Opening}
-use Rattle.marker.specs.declared.Answer.{Answer}
 use Rattle.marker.specs.Words.{Words}
-use Rattle.marker.specs.Calls.{open_words, refusal_in, holds_in, marking, mark_of, mark_words}
+use Rattle.marker.specs.Calls.{open_words, mark_of, mark_words}
 use Rattle.marker.specs.Values.{answer_read}
 use Rattle.marker.specs.Machine.{told_by, in_force}
 use Rattle.marker.specs.Promises.{Opens, Marks}
@@ -20,22 +21,22 @@ use Rattle.marker.proofs.Follows.{all-faithful}
 use Rattle.marker_guarantees.proofs.Kept.{bounds}
 use Rattle.bilgethrum_values.specs.declared.HostMarking.{HostMarking}
 use Rattle.bilgethrum_values.specs.Host.{host_marker_opening, host_marking}
-use Rattle.bilgethrum.specs.Markers.{HostOpensMarker, HostMarks, marking_read, markings_read, told_numbers, AllMarkingsFaithful, answer_taken, host_told, HostBounds, OneHostMarkerOpening, OneHostMarking}
+use Rattle.bilgethrum.specs.Markers.{HostOpensMarker, HostMarks, marking_read, markings_read, told_numbers, AllMarkingsFaithful, taken_by, answer_taken, host_told, HostBounds, OneHostMarkerOpening, OneHostMarking}
 
-pub opens-marker : (asked : Flows) (before : Words) (r : Opening) (n : ℕ) (left : Words) → Opens asked before r left → n ≡ host_marker_opening r
+pub opens-marker : (asked : Flows) (before : Words) (r : Result (Unit {0}) Refusal) (n : ℕ) (left : Words) → Opens asked before r left → n ≡ host_marker_opening r
     → HostOpensMarker asked before n left
 opens-marker asked before r n left h e =
-    record { value = e ∙ ap host_marker_opening h.value; opens = subst (λ (q : Opening). Opens asked before q left) h.value h }
+    record { value = e ∙ ap host_marker_opening h.value; opens = subst (λ (q : Result (Unit {0}) Refusal). Opens asked before q left) h.value h }
 
-pub marks-by : (w : Words) (c : Call) (r : Answer) (x : HostMarking) (left : Words) → Marks w c r left → x ≡ host_marking r → HostMarks w c x left
+pub marks-by : (w : Words) (c : Call) (r : Result Marking Refusal) (x : HostMarking) (left : Words) → Marks w c r left → x ≡ host_marking r → HostMarks w c x left
 marks-by w c r x left h e =
-    record { value = e ∙ ap host_marking h.value; marks = subst (λ (q : Answer). Marks w c q left) h.value h }
+    record { value = e ∙ ap host_marking h.value; marks = subst (λ (q : Result Marking Refusal). Marks w c q left) h.value h }
 
 -- The numbers that a host reads are the rules' numbers of the same answer.
-read_alike : (a : Answer) → marking_read (host_marking a) ≡ numbers_of (answer_read a)
-read_alike Answer.Unmarked = refl
-read_alike Answer.Marked = refl
-read_alike (Answer.Refused n) = refl
+read_alike : (a : Result Marking Refusal) → marking_read (host_marking a) ≡ numbers_of (answer_read a)
+read_alike (Ok Marking.Unmarked) = refl
+read_alike (Ok Marking.Marked) = refl
+read_alike (Err r) = refl
 
 read_told : (w : Words) (cs : List Call) → markings_read w cs ≡ map told_numbers (told_by w cs)
 unfolding markings_read told_by
@@ -46,21 +47,16 @@ pub all_markings_faithful : AllMarkingsFaithful
 all_markings_faithful asked before z cs =
     read_told (open_words asked before) cs ∙ ap (map told_numbers) (all-faithful asked before z cs).told
 
--- What a host takes the numbers for is the answer that they are of: no refusal has the number 0.
-taken-by : (n : ℕ) (z b : Bool) → eqb n 0 ≡ z
-    → answer_taken (host_marking (marking n b)).refusal (host_marking (marking n b)).marked ≡ answer_read (marking n b)
-taken-by n true true e = rw e
-taken-by n true false e = rw e
-taken-by n false b e = rw (e, e)
-
-taken : (w : Words) (c : Call) → answer_taken (host_marking (mark_of w c)).refusal (host_marking (mark_of w c)).marked ≡ answer_read (mark_of w c)
-unfolding mark_of
-taken w c = taken-by (refusal_in w c) (eqb (refusal_in w c) 0) (holds_in w c) refl
+-- What a host takes the numbers for is the answer that they are of.
+taken : (a : Result Marking Refusal) → answer_taken (host_marking a).refusal (host_marking a).marked ≡ answer_read a
+taken (Ok Marking.Unmarked) = refl
+taken (Ok Marking.Marked) = refl
+taken (Err r) = ap (λ (o : Option Refusal). taken_by o 0) (named_number r)
 
 taken-told : (w : Words) (cs : List Call) → host_told w cs ≡ told_by w cs
 unfolding host_told told_by
 taken-told w [] = refl
-taken-told w (c ∷ cs) = rw (taken w c, taken-told (mark_words w c) cs)
+taken-told w (c ∷ cs) = rw (taken (mark_of w c), taken-told (mark_words w c) cs)
 
 pub host_bounds : HostBounds
 host_bounds asked before z cs =

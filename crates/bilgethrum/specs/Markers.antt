@@ -1,5 +1,8 @@
 -- The promises of the marker's calls for C hosts, through the definitions of the calls below them; and lists of such calls. Assumes nothing.
 use Rattle.std.specs.Prelude.{◌≡◌, cond, List, [], ◌∷◌, map, ℕ, eqb}
+use Rattle.std.proofs.Math.Option.{Option, none, some}
+use Rattle.refusals.specs.declared.Refusal.{Refusal}
+use Rattle.refusals.specs.Named.{named}
 use Rattle.marker_flows.specs.declared.Flows.{Flows}
 use Rattle.marker_rules.specs.Step.{Call, Answer, unmarked, marked, refused, fresh}
 use Rattle.marker_rules.specs.Numbers.{numbers_of}
@@ -43,9 +46,13 @@ AllMarkingsFaithful =
     → (cs : List Call)
     → markings_read (open_words asked before) cs ≡ map told_numbers (told (in_force asked) (fresh (in_force asked)) cs)
 
--- The answer as a host takes it from these numbers: refused where the refusal is not 0, else marked where the other is not.
+-- The answer as a host takes it from these numbers: refused where the first is a refusal's, which 0 is not, else marked where the other is not 0.
+abbrev pub taken_by : Option Refusal → (marked : ℕ) → Answer
+taken_by (some r) m = refused r
+taken_by none m = cond (eqb m 0) unmarked marked
+
 abbrev pub answer_taken : (refusal marked : ℕ) → Answer
-answer_taken n m = cond (eqb n 0) (cond (eqb m 0) unmarked marked) (refused n)
+answer_taken n m = taken_by (named n) m
 
 -- The calls with the answers that the host takes.
 unfoldable pub host_told : Words → List Call → List Told

@@ -1,6 +1,7 @@
 -- The promises of the calls for C hosts, through the definitions of the calls below them. A line is the list of a host's words. Assumes nothing.
-use Rattle.std.specs.Prelude.{◌≡◌, List, ℕ, eqb, length}
+use Rattle.std.specs.Prelude.{◌≡◌, List, ℕ, eqb, length, Result}
 use Rattle.std.proofs.Math.Option.{none}
+use Rattle.refusals.specs.declared.Refusal.{Refusal}
 use Rattle.refusals.specs.First.{first_refusal}
 use Rattle.rules.specs.Terms.{terms_of}
 use Rattle.rules.specs.Step.{advance}
@@ -20,7 +21,6 @@ use Rattle.scheduler.specs.Steps.{arrival_of, Steps}
 use Rattle.scheduler_kept.specs.Words.{scheduler_words, scheduler_in}
 use Rattle.block_columns.specs.Columns.{Columns}
 use Rattle.block_reader.specs.Read.{read_of, Reads}
-use Rattle.block_writer.specs.declared.Writing.{Writing}
 use Rattle.block_writer.specs.Writable.{write_tests}
 use Rattle.block_writer.specs.Write.{answer_of, Writes}
 use Rattle.bilgethrum_values.specs.declared.HostSettings.{HostSettings}
@@ -102,7 +102,7 @@ pub record HostReads (image : List ℕ) (before : Columns) (x : HostReading) (af
   pub columns : Reads image before (read_of image before) after
 
 -- WRITE: what the writer gives, and its image.
-abbrev pub written : HostSettings → Columns → (room : ℕ) → Writing
+abbrev pub written : HostSettings → Columns → (room : ℕ) → Result ℕ Refusal
 written asked c room = answer_of (first_refusal (write_tests (settings_from asked) c room)) (length c.kinds)
 
 pub record HostWrites (asked : HostSettings) (c : Columns) (before : List ℕ) (x : HostWriting) (after : List ℕ) : Type 0 where

@@ -15,15 +15,15 @@ ghost use Rattle.bilgethrum.specs.Markers.{HostOpensMarker, HostMarks};
 
 use bilgethrum_values::{
     HostArrival, HostDecision, HostMarking, HostPacket, HostReading, HostSettings, HostTallies,
-    HostWriting, host_arrival, host_decision, host_marking, host_reading, host_tallies,
-    host_writing, marker_refusal_of, packet_from, refusal_of, settings_from,
+    HostWriting, refusal_of,
 };
+use block_columns::Columns;
 use marker::Marker;
 use marker_flows::Flows;
-use room::Room;
+use room::{Packet, Room};
 use scheduler_kept::scheduler_in;
 use scheduler_state::Scheduler;
-use units::{Bytes, Instant};
+use units::{Bytes, Instant, Marking, Settings};
 
 // Keeps the scheduler in the line's words, unless the call was refused: then no word is changed.
 fn keep_accepted(refusal: u32, scheduler: Scheduler, line: &mut Room)
@@ -40,10 +40,9 @@ fn keep_accepted(refusal: u32, scheduler: Scheduler, line: &mut Room)
 pub extern "C" fn bilgethrum_open(line: &mut Room, settings: HostSettings) -> u32
     ensures { HostOpens settings line.old result line.new }
 {
-    let opened = scheduler::open(settings_from(settings));
+    let opened = scheduler::open(Settings::from(settings));
     scheduler_kept::keep(opened.scheduler, line);
-    let answer = opened.answer;
-    refusal_of(answer)
+    refusal_of(opened.answer)
 }
 
 // A packet arrives. A refusal changes no word.
@@ -53,9 +52,8 @@ pub extern "C" fn bilgethrum_arrive(line: &mut Room, packet: HostPacket) -> Host
     ensures { HostArrives line.old packet result line.new }
 {
     let scheduler = scheduler_in(line);
-    let arrived = scheduler::arrive(scheduler, packet_from(packet), line);
-    let answer = arrived.answer;
-    let given = host_arrival(answer);
+    let arrived = scheduler::arrive(scheduler, Packet::from(packet), line);
+    let given = HostArrival::from(arrived.answer);
     keep_accepted(given.refusal, arrived.scheduler, line);
     given
 }
@@ -68,8 +66,7 @@ pub extern "C" fn bilgethrum_advance(line: &mut Room, at: u64) -> HostDecision
 {
     let scheduler = scheduler_in(line);
     let advanced = scheduler::advance(scheduler, Instant(at), line);
-    let answer = advanced.answer;
-    let decided = host_decision(answer);
+    let decided = HostDecision::from(advanced.answer);
     keep_accepted(decided.refusal, advanced.scheduler, line);
     decided
 }
@@ -80,7 +77,7 @@ pub extern "C" fn bilgethrum_tally(line: &Room) -> HostTallies
     ensures { result ≡ tallied line.now }
 {
     let scheduler = scheduler_in(line);
-    host_tallies(scheduler.tallies)
+    HostTallies::from(scheduler.tallies)
 }
 
 // Opens a marker, whatever stood in its words.
@@ -88,8 +85,7 @@ pub extern "C" fn bilgethrum_tally(line: &Room) -> HostTallies
 pub extern "C" fn bilgethrum_open_marker(marker: &mut Marker, flows: Flows) -> u32
     ensures { HostOpensMarker flows marker.old result marker.new }
 {
-    let answer = marker::open(flows, marker);
-    marker_refusal_of(answer)
+    refusal_of(marker::open(flows, marker))
 }
 
 // A packet at the door is left unmarked or marked. A refusal changes no word.
@@ -104,7 +100,7 @@ pub extern "C" fn bilgethrum_mark(
     ensures { HostMarks marker.old (call_of flow length at) result marker.new }
 {
     let answer = marker::mark(flow, Bytes(length), Instant(at), marker);
-    host_marking(answer)
+    HostMarking::from(answer)
 }
 
 // Reads an image into the columns. A refusal changes no entry.
@@ -118,8 +114,7 @@ pub extern "C" fn bilgethrum_read(
 ) -> HostReading
     ensures { HostReads image.now (columns kinds.old lengths.old places.old instants.old) result (columns kinds.new lengths.new places.new instants.new) }
 {
-    let answer = block_reader::read(image, kinds, lengths, places, instants);
-    host_reading(answer)
+    HostReading::from(block_reader::read(image, kinds, lengths, places, instants))
 }
 
 // Writes the events of the columns as an image. A refusal changes no byte.
@@ -134,15 +129,13 @@ pub extern "C" fn bilgethrum_write(
 ) -> HostWriting
     ensures { HostWrites settings (columns kinds.now lengths.now places.now instants.now) image.old result image.new }
 {
-    let answer = block_writer::write(
-        settings_from(settings),
+    let columns = Columns {
         kinds,
         lengths,
         places,
         instants,
-        image,
-    );
-    host_writing(answer)
+    };
+    HostWriting::from(block_writer::write(Settings::from(settings), columns, image))
 }
 
 // The number of a packet's view, 0 if it is not refused.
@@ -154,14 +147,13 @@ pub extern "C" fn bilgethrum_view_refusal<'a>(
 ) -> u32
     ensures { result ≡ view_refusal (area_of (packet_from packet).marking unmarked.now marked.now) packet.length packet.place }
 {
-    let marking = room::marking_of(packet.marked);
-    payload::view_refusal(
+    refusal_of(payload::judge_view(
         unmarked,
         marked,
-        marking,
+        Marking::from(packet.marked),
         Bytes(packet.length),
         packet.place,
-    ) as u32
+    ))
 }
 
 // The whole run: the text of an image, at the start of the area. Returns the text's length, or -32 where the area is shorter than that;

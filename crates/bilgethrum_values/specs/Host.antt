@@ -1,19 +1,19 @@
 -- What a C host hands over and is handed, in the terms of the calls: numbers that an answer has no use for are 0. Assumes nothing.
-use Rattle.std.proofs.Math.Option.{Option, none, some}
-use Rattle.std.specs.Prelude.{ℕ, min, get_or}
+use Rattle.std.proofs.Math.Option as math
+use Rattle.std.specs.Prelude.{ℕ, min, get_or, Option, Result}
+use Rattle.refusals.specs.declared.Refusal.{Refusal}
 use Rattle.units.specs.declared.Settings.{Settings}
+use Rattle.units.specs.declared.Marking.{Marking}
 use Rattle.room.specs.declared.Packet.{Packet}
 use Rattle.units.specs.Codes.{code_of, marking_of}
 use Rattle.scheduler_state.specs.declared.Tallies.{Tallies}
-use Rattle.scheduler_answers.specs.declared.Admission.{Admission}
-use Rattle.scheduler_answers.specs.declared.Outcome.{Outcome}
+use Rattle.scheduler_answers.specs.declared.Admitted.{Admitted}
+use Rattle.scheduler_answers.specs.declared.Start.{Start}
 use Rattle.scheduler_answers.specs.Values.{admission_numbers, advance_numbers, tally_values, handed}
-use Rattle.block_image.specs.declared.Reading.{Reading}
+use Rattle.block_image.specs.declared.Trace.{Trace}
+use Rattle.block_image.specs.declared.ImageRefusal.{ImageRefusal}
 use Rattle.block_reader.specs.Values.{reading_values}
-use Rattle.block_writer.specs.declared.Writing.{Writing}
 use Rattle.block_writer.specs.Values.{writing_values}
-use Rattle.marker.specs.declared.Opening.{Opening}
-use Rattle.marker.specs.declared.Answer.{Answer}
 use Rattle.marker.specs.Values.{opening_number, answer_values}
 use Rattle.bilgethrum_values.specs.declared.HostSettings.{HostSettings}
 use Rattle.bilgethrum_values.specs.declared.HostPacket.{HostPacket}
@@ -46,17 +46,17 @@ packet_from h =
 abbrev pub host_packet : Packet → HostPacket
 host_packet p = record { arrival = p.arrival.0; length = p.length.0; place = p.place; marked = code_of p.marking }
 
-abbrev pub packet_or : Option Packet → HostPacket
-packet_or none = record { arrival = 0; length = 0; place = 0; marked = 0 }
-packet_or (some p) = host_packet p
+abbrev pub packet_or : math.Option Packet → HostPacket
+packet_or math.none = record { arrival = 0; length = 0; place = 0; marked = 0 }
+packet_or (math.some p) = host_packet p
 
 -- An arrival's answer: its refusal, number and extra delay.
-abbrev pub host_arrival : Admission → HostArrival
+abbrev pub host_arrival : Result Admitted Refusal → HostArrival
 host_arrival a =
     record { refusal = get_or (admission_numbers a) 0 0; number = get_or (admission_numbers a) 1 0; extra = get_or (admission_numbers a) 3 0 }
 
 -- An advance's answer: its five numbers, and the packet that starts.
-abbrev pub host_decision : Outcome → HostDecision
+abbrev pub host_decision : Result (Option Start) Refusal → HostDecision
 host_decision o =
     record {
       refusal = get_or (advance_numbers o) 0 0;
@@ -66,10 +66,6 @@ host_decision o =
       dropped = get_or (advance_numbers o) 4 0;
       packet = packet_or (handed o);
     }
-
--- The answer where no packet starts.
-abbrev pub undecided : (refusal : ℕ) → HostDecision
-undecided n = record { refusal = n; number = 0; start = 0; extra = 0; dropped = 0; packet = packet_or none }
 
 -- The five tallies, behind the letter of their line.
 abbrev pub host_tallies : Tallies → HostTallies
@@ -83,7 +79,7 @@ host_tallies t =
     }
 
 -- A read's answer: its refusal, block, record, events and settings.
-abbrev pub host_reading : Reading → HostReading
+abbrev pub host_reading : Result Trace ImageRefusal → HostReading
 host_reading y =
     record {
       refusal = get_or (reading_values y) 0 0;
@@ -94,13 +90,13 @@ host_reading y =
     }
 
 -- A write's answer: its refusal, and how many bytes the image takes.
-abbrev pub host_writing : Writing → HostWriting
+abbrev pub host_writing : Result ℕ Refusal → HostWriting
 host_writing y = record { refusal = get_or (writing_values y) 0 0; bytes = get_or (writing_values y) 1 0 }
 
 -- The number of a marker's opening.
-abbrev pub host_marker_opening : Opening → ℕ
+abbrev pub host_marker_opening : Result (Unit {0}) Refusal → ℕ
 host_marker_opening o = opening_number o
 
 -- The answer to a packet at the door: its refusal, and 1 if it is marked.
-abbrev pub host_marking : Answer → HostMarking
+abbrev pub host_marking : Result Marking Refusal → HostMarking
 host_marking a = record { refusal = get_or (answer_values a) 0 0; marked = get_or (answer_values a) 1 0 }

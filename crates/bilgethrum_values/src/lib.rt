@@ -1,28 +1,49 @@
-// What a C host hands over and is handed, as structs of numbers, to and from the types of the calls. The functions serve the crate `bilgethrum`
-// only.
+// What a C host hands over and is handed, as structs of numbers, to and from the types of the calls. They serve the crate `bilgethrum` only.
 #![tactic(auto)]
 
-ghost use Rattle.std.specs.Prelude.{◌≡◌, min};
+ghost use Rattle.std.specs.Prelude.{◌≡◌};
 ghost use Rattle.scheduler_answers.specs.Values.{opening_number};
-ghost use Rattle.bilgethrum_values.specs.Host.{settings_from, packet_from, host_settings, host_packet, host_arrival, host_decision, host_tallies, host_reading, host_writing, host_marker_opening, host_marking, undecided};
+ghost use Rattle.bilgethrum_values.specs.Host.{settings_from, packet_from, host_settings, host_packet, host_arrival, host_decision, host_tallies, host_reading, host_writing, host_marking};
 
-use block_image::Reading;
-use block_writer::Writing;
-use marker::Answer;
+use block_image::{ImageRefusal, Trace};
+use refusals::Refusal;
 use room::Packet;
-use scheduler_answers::{Admission, Decision, Opening, Outcome, Start};
+use scheduler_answers::{Admitted, Start};
 use scheduler_state::Tallies;
-use units::{Bytes, Instant, Settings, Ticks};
+use units::{Bytes, Instant, Marking, Settings, Ticks};
 
 #[repr(C)]
-#[derive(Clone, Copy)]
+#[derive(Clone, Copy, Default)]
 pub struct HostSettings {
     pub alpha: u64,
     pub ticks_per_byte: u32,
 }
 
+// Ticks per byte beyond 16 bits count as the most of 16 bits, which is out of range too.
+impl From<HostSettings> for Settings {
+    ghost from_gives = { λ asked settings. settings ≡ settings_from asked };
+
+    fn from(asked: HostSettings) -> Settings {
+        Settings {
+            alpha: Ticks(asked.alpha),
+            ticks_per_byte: u16::try_from(asked.ticks_per_byte).unwrap_or(u16::MAX),
+        }
+    }
+}
+
+impl From<Settings> for HostSettings {
+    ghost from_gives = { λ settings given. given ≡ host_settings settings };
+
+    fn from(settings: Settings) -> HostSettings {
+        HostSettings {
+            alpha: settings.alpha.0,
+            ticks_per_byte: u32::from(settings.ticks_per_byte),
+        }
+    }
+}
+
 #[repr(C)]
-#[derive(Clone, Copy)]
+#[derive(Clone, Copy, Default)]
 pub struct HostPacket {
     pub arrival: u64,
     pub length: u32,
@@ -30,16 +51,73 @@ pub struct HostPacket {
     pub marked: u32,
 }
 
+impl From<HostPacket> for Packet {
+    ghost from_gives = { λ given packet. packet ≡ packet_from given };
+
+    fn from(given: HostPacket) -> Packet {
+        Packet {
+            marking: Marking::from(given.marked),
+            length: Bytes(given.length),
+            place: given.place,
+            arrival: Instant(given.arrival),
+        }
+    }
+}
+
+impl From<Packet> for HostPacket {
+    ghost from_gives = { λ packet given. given ≡ host_packet packet };
+
+    fn from(packet: Packet) -> HostPacket {
+        HostPacket {
+            arrival: packet.arrival.0,
+            length: packet.length.0,
+            place: packet.place,
+            marked: u32::from(packet.marking),
+        }
+    }
+}
+
+// The number of a judgement, 0 if nothing is refused. No From: both types are foreign here.
+pub fn refusal_of(judgement: Result<(), Refusal>) -> u32
+    ensures { result ≡ opening_number judgement }
+{
+    match judgement {
+        Ok(()) => 0,
+        Err(refusal) => u32::from(refusal),
+    }
+}
+
+// Below, a number that an answer has no use for is 0.
 #[repr(C)]
-#[derive(Clone, Copy)]
+#[derive(Clone, Copy, Default)]
 pub struct HostArrival {
     pub refusal: u32,
     pub number: u32,
     pub extra: u64,
 }
 
+impl From<Result<Admitted, Refusal>> for HostArrival {
+    ghost from_gives = { λ answer given. given ≡ host_arrival answer };
+
+    fn from(answer: Result<Admitted, Refusal>) -> HostArrival {
+        let none = HostArrival::default();
+        match answer {
+            Ok(Admitted::Unmarked { number, extra }) => HostArrival {
+                number,
+                extra: extra.0,
+                ..none
+            },
+            Ok(Admitted::Marked { number }) => HostArrival { number, ..none },
+            Err(refusal) => HostArrival {
+                refusal: u32::from(refusal),
+                ..none
+            },
+        }
+    }
+}
+
 #[repr(C)]
-#[derive(Clone, Copy)]
+#[derive(Clone, Copy, Default)]
 pub struct HostDecision {
     pub refusal: u32,
     pub number: u32,
@@ -47,6 +125,29 @@ pub struct HostDecision {
     pub extra: u64,
     pub dropped: u32,
     pub packet: HostPacket,
+}
+
+impl From<Result<Option<Start>, Refusal>> for HostDecision {
+    ghost from_gives = { λ answer given. given ≡ host_decision answer };
+
+    fn from(answer: Result<Option<Start>, Refusal>) -> HostDecision {
+        let none = HostDecision::default();
+        match answer {
+            Ok(Some(start)) => HostDecision {
+                refusal: 0,
+                number: start.number,
+                start: start.at.0,
+                extra: start.extra.0,
+                dropped: start.dropped,
+                packet: HostPacket::from(start.packet),
+            },
+            Ok(None) => none,
+            Err(refusal) => HostDecision {
+                refusal: u32::from(refusal),
+                ..none
+            },
+        }
+    }
 }
 
 #[repr(C)]
@@ -59,14 +160,49 @@ pub struct HostTallies {
     pub marked_dropped: u32,
 }
 
+impl From<Tallies> for HostTallies {
+    ghost from_gives = { λ tallies given. given ≡ host_tallies tallies };
+
+    fn from(tallies: Tallies) -> HostTallies {
+        HostTallies {
+            unmarked_admitted: tallies.admitted.unmarked,
+            marked_admitted: tallies.admitted.marked,
+            unmarked_started: tallies.started.unmarked,
+            marked_started: tallies.started.marked,
+            marked_dropped: tallies.dropped,
+        }
+    }
+}
+
 #[repr(C)]
-#[derive(Clone, Copy)]
+#[derive(Clone, Copy, Default)]
 pub struct HostReading {
     pub refusal: u32,
     pub block: u32,
     pub record: u32,
     pub events: usize,
     pub settings: HostSettings,
+}
+
+impl From<Result<Trace, ImageRefusal>> for HostReading {
+    ghost from_gives = { λ answer given. given ≡ host_reading answer };
+
+    fn from(answer: Result<Trace, ImageRefusal>) -> HostReading {
+        let none = HostReading::default();
+        match answer {
+            Ok(trace) => HostReading {
+                events: trace.events,
+                settings: HostSettings::from(trace.settings),
+                ..none
+            },
+            Err(refused) => HostReading {
+                refusal: u32::from(refused.refusal),
+                block: refused.block,
+                record: refused.record,
+                ..none
+            },
+        }
+    }
 }
 
 #[repr(C)]
@@ -76,6 +212,20 @@ pub struct HostWriting {
     pub bytes: usize,
 }
 
+impl From<Result<usize, Refusal>> for HostWriting {
+    ghost from_gives = { λ answer given. given ≡ host_writing answer };
+
+    fn from(answer: Result<usize, Refusal>) -> HostWriting {
+        match answer {
+            Ok(bytes) => HostWriting { refusal: 0, bytes },
+            Err(refusal) => HostWriting {
+                refusal: u32::from(refusal),
+                bytes: 0,
+            },
+        }
+    }
+}
+
 #[repr(C)]
 #[derive(Clone, Copy)]
 pub struct HostMarking {
@@ -83,210 +233,19 @@ pub struct HostMarking {
     pub marked: u32,
 }
 
-// Ticks per byte beyond 16 bits count as the most of 16 bits, which is out of range too.
-fn narrowed(ticks: u32) -> u16
-    ensures { result ≡ min ticks 65535 }
-{
-    if ticks <= 65535 { ticks as u16 } else { 65535 }
-}
+impl From<Result<Marking, Refusal>> for HostMarking {
+    ghost from_gives = { λ answer given. given ≡ host_marking answer };
 
-pub fn settings_from(asked: HostSettings) -> Settings
-    ensures { result ≡ settings_from asked }
-{
-    Settings {
-        alpha: Ticks(asked.alpha),
-        ticks_per_byte: narrowed(asked.ticks_per_byte),
-    }
-}
-
-pub fn packet_from(packet: HostPacket) -> Packet
-    ensures { result ≡ packet_from packet }
-{
-    Packet {
-        marking: room::marking_of(packet.marked),
-        length: Bytes(packet.length),
-        place: packet.place,
-        arrival: Instant(packet.arrival),
-    }
-}
-
-fn host_packet(packet: Packet) -> HostPacket
-    ensures { result ≡ host_packet packet }
-{
-    let marking = packet.marking;
-    HostPacket {
-        arrival: packet.arrival.0,
-        length: packet.length.0,
-        place: packet.place,
-        marked: room::code_of(marking),
-    }
-}
-
-pub fn refusal_of(answer: Opening) -> u32
-    ensures { result ≡ opening_number answer }
-{
-    match answer {
-        Opening::Ready => 0,
-        Opening::Refused(number) => number as u32,
-    }
-}
-
-pub fn host_arrival(answer: Admission) -> HostArrival
-    ensures { result ≡ host_arrival answer }
-{
-    match answer {
-        Admission::Unmarked { number, extra } => HostArrival {
-            refusal: 0,
-            number,
-            extra: extra.0,
-        },
-        Admission::Marked { number } => HostArrival {
-            refusal: 0,
-            number,
-            extra: 0,
-        },
-        Admission::Refused(refusal) => HostArrival {
-            refusal: refusal as u32,
-            number: 0,
-            extra: 0,
-        },
-    }
-}
-
-// No packet starts.
-fn none_starts(refusal: u32) -> HostDecision
-    ensures { result ≡ undecided refusal }
-{
-    let packet = HostPacket {
-        arrival: 0,
-        length: 0,
-        place: 0,
-        marked: 0,
-    };
-    HostDecision {
-        refusal,
-        number: 0,
-        start: 0,
-        extra: 0,
-        dropped: 0,
-        packet,
-    }
-}
-
-fn host_start(start: Start) -> HostDecision
-    ensures { result ≡ host_decision (Outcome.Decided (Decision.Started start)) }
-{
-    HostDecision {
-        refusal: 0,
-        number: start.number,
-        start: start.at.0,
-        extra: start.extra.0,
-        dropped: start.dropped,
-        packet: host_packet(start.packet),
-    }
-}
-
-pub fn host_decision(answer: Outcome) -> HostDecision
-    ensures { result ≡ host_decision answer }
-{
-    match answer {
-        Outcome::Decided(decision) => match decision {
-            Decision::Started(start) => host_start(start),
-            Decision::NothingDue => none_starts(0),
-        },
-        Outcome::Refused(number) => none_starts(number as u32),
-    }
-}
-
-pub fn host_tallies(tallies: Tallies) -> HostTallies
-    ensures { result ≡ host_tallies tallies }
-{
-    HostTallies {
-        unmarked_admitted: tallies.admitted.unmarked,
-        marked_admitted: tallies.admitted.marked,
-        unmarked_started: tallies.started.unmarked,
-        marked_started: tallies.started.marked,
-        marked_dropped: tallies.dropped,
-    }
-}
-
-fn host_settings(settings: Settings) -> HostSettings
-    ensures { result ≡ host_settings settings }
-{
-    HostSettings {
-        alpha: settings.alpha.0,
-        ticks_per_byte: settings.ticks_per_byte as u32,
-    }
-}
-
-pub fn host_reading(answer: Reading) -> HostReading
-    ensures { result ≡ host_reading answer }
-{
-    match answer {
-        Reading::Accepted { settings, events } => HostReading {
-            refusal: 0,
-            block: 0,
-            record: 0,
-            events,
-            settings: host_settings(settings),
-        },
-        Reading::Refused {
-            number,
-            block,
-            record: index,
-        } => {
-            let none = HostSettings {
-                alpha: 0,
-                ticks_per_byte: 0,
-            };
-            HostReading {
-                refusal: number as u32,
-                block,
-                record: index,
-                events: 0,
-                settings: none,
-            }
+    fn from(answer: Result<Marking, Refusal>) -> HostMarking {
+        match answer {
+            Ok(marking) => HostMarking {
+                refusal: 0,
+                marked: u32::from(marking),
+            },
+            Err(refusal) => HostMarking {
+                refusal: u32::from(refusal),
+                marked: 0,
+            },
         }
-    }
-}
-
-pub fn host_writing(answer: Writing) -> HostWriting
-    ensures { result ≡ host_writing answer }
-{
-    match answer {
-        Writing::Written { bytes } => HostWriting { refusal: 0, bytes },
-        Writing::Refused { number } => HostWriting {
-            refusal: number as u32,
-            bytes: 0,
-        },
-    }
-}
-
-// The number of a marker's opening, 0 if it is not refused.
-pub fn marker_refusal_of(answer: marker::Opening) -> u32
-    ensures { result ≡ host_marker_opening answer }
-{
-    match answer {
-        marker::Opening::Ready => 0,
-        marker::Opening::Refused(number) => number as u32,
-    }
-}
-
-pub fn host_marking(answer: Answer) -> HostMarking
-    ensures { result ≡ host_marking answer }
-{
-    match answer {
-        Answer::Unmarked => HostMarking {
-            refusal: 0,
-            marked: 0,
-        },
-        Answer::Marked => HostMarking {
-            refusal: 0,
-            marked: 1,
-        },
-        Answer::Refused(number) => HostMarking {
-            refusal: number as u32,
-            marked: 0,
-        },
     }
 }

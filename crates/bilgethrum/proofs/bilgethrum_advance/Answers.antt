@@ -4,5 +4,5 @@ use Rattle.bilgethrum.proofs.bilgethrum_advance.Goals as goal
 
 pub returns : goal.returns
 returns c =
-    host_advances _ c.args.at c.advance-advanced.result c.host_decision-decided.result c.requires
-    (rw c.scheduler_in-scheduler.ensures at c.advance-advanced.ensures) c.host_decision-decided.ensures _ c.keep_accepted.ensures
+    host_advances _ c.args.at c.advance-advanced.result c.from-decided.result c.requires
+    (rw c.scheduler_in-scheduler.ensures at c.advance-advanced.ensures) c.from-decided.ensures _ c.keep_accepted.ensures
