@@ -1,16 +1,14 @@
 // How a Rattle host uses the scheduler: it opens one, lends it a waiting room, hands in a packet and asks what to send.
 #![tactic(auto)]
 
-use scheduler::{Decision, Outcome, Packet};
+use refusals::Refusal;
+use scheduler::{Packet, Start};
 use std::io;
 use units::{Bytes, Instant, Marking, Settings, Ticks};
 
 // Says which packet goes onto the line.
-fn send(rt: &impl Print, answer: Outcome) -> io::Result<()> {
-    let Outcome::Decided(decision) = answer else {
-        return Ok(());
-    };
-    let Decision::Started(start) = decision else {
+fn send(rt: &impl Print, answer: Result<Option<Start>, Refusal>) -> io::Result<()> {
+    let Ok(Some(start)) = answer else {
         return Ok(());
     };
     println!(rt; "packet {} starts at {}", start.number, start.at.0)
