@@ -2,174 +2,204 @@
 #![tactic(auto)]
 
 use block_check::{check_of, sum};
-use block_image::Reading;
+use block_columns::Columns;
+use block_image::{ImageRefusal, Trace};
 use block_layout::seal;
 use block_reader::read;
-use block_writer::{Writing, write};
+use block_writer::write;
+use refusals::Refusal;
 use std::io;
 use units::{Settings, Ticks};
-
-fn number(rt: &impl Print, n: u64) -> io::Result<()> {
-    print!(rt; "{n} ")
-}
-
-fn small(rt: &impl Print, n: u8) -> io::Result<()> {
-    number(rt, n as u64)
-}
-
-fn entry(rt: &impl Print, kind: u8, length: u32, place: u32, instant: u64) -> io::Result<()> {
-    print!(rt; "{kind} {length} {place} {instant} ")
-}
-
-fn show(rt: &impl Print, value: u16) -> io::Result<()> {
-    println!(rt; "{value:04x}")
-}
 
 // RFC 1071's own examples: the sum of section 3 in its two byte orders, an odd last byte as the high half of a word, and checks;
 // and a sum that one fold would leave a carry in.
 fn sums(rt: &impl Print) -> io::Result<()> {
-    show(rt, sum(b"\x00\x01\xf2\x03\xf4\xf5\xf6\xf7"))?;
-    show(rt, sum(b"\x01\x00\x03\xf2\xf5\xf4\xf7\xf6"))?;
-    show(rt, sum(b"\x00\x01\xf2"))?;
-    show(rt, sum(b"\xff\xff\xff\xff\x01\x00"))?;
-    show(rt, check_of(b"\xff\xff\x00\x01\xf2\x03\xf4\xf5\xf6\xf7"))?;
-    show(rt, check_of(b"\x00\x00\xff\xff"))
+    println!(rt; "{:04x}", sum(b"\x00\x01\xf2\x03\xf4\xf5\xf6\xf7"))?;
+    println!(rt; "{:04x}", sum(b"\x01\x00\x03\xf2\xf5\xf4\xf7\xf6"))?;
+    println!(rt; "{:04x}", sum(b"\x00\x01\xf2"))?;
+    println!(rt; "{:04x}", sum(b"\xff\xff\xff\xff\x01\x00"))?;
+    println!(rt;
+        "{:04x}",
+        check_of(b"\xff\xff\x00\x01\xf2\x03\xf4\xf5\xf6\xf7")
+    )?;
+    println!(rt; "{:04x}", check_of(b"\x00\x00\xff\xff"))
 }
 
-fn show_reading(rt: &impl Print, r: Reading) -> io::Result<()> {
-    match r {
-        Reading::Accepted { settings, events } => {
-            let alpha = settings.alpha.0;
-            let ticks = settings.ticks_per_byte;
-            print!(rt; "accepted {alpha} {ticks} {events} ")
+fn show_reading(rt: &impl Print, answer: Result<Trace, ImageRefusal>) -> io::Result<()> {
+    match answer {
+        Ok(trace) => {
+            let Trace { settings, events } = trace;
+            print!(rt;
+                "accepted {} {} {events} ",
+                settings.alpha.0, settings.ticks_per_byte
+            )
         }
-        Reading::Refused {
-            number: n,
-            block,
-            record,
-        } => print!(rt; "refused {n} {block} {record} "),
+        Err(r) => print!(rt; "refused {} {} {} ", u8::from(r.refusal), r.block, r.record),
     }
 }
 
-fn show_writing(rt: &impl Print, w: Writing) -> io::Result<()> {
-    match w {
-        Writing::Written { bytes } => print!(rt; "written {bytes} "),
-        Writing::Refused { number: n } => print!(rt; "refused {n} "),
+fn show_writing(rt: &impl Print, answer: Result<usize, Refusal>) -> io::Result<()> {
+    match answer {
+        Ok(bytes) => print!(rt; "written {bytes} "),
+        Err(refusal) => print!(rt; "refused {} ", u8::from(refusal)),
     }
 }
 
-// Reads into columns of 77s, and shows the answer and the columns' first and last entries.
+// Columns that were lent to the reader: the instants may have another length than the others.
+#[derive(Drop)]
+struct Lent<const N: usize, const T: usize> {
+    kinds: [u8; N],
+    lengths: [u32; N],
+    places: [u32; N],
+    instants: [u64; T],
+}
+
+// Reads into columns of 77s, and shows the answer.
+fn read_into<const N: usize, const T: usize>(
+    rt: &impl Print,
+    image: &[u8],
+) -> io::Result<Lent<N, T>> {
+    let mut kinds = [77; N];
+    let mut lengths = [77; N];
+    let mut places = [77; N];
+    let mut instants = [77; T];
+    show_reading(
+        rt,
+        read(image, &mut kinds, &mut lengths, &mut places, &mut instants),
+    )?;
+    Ok(Lent {
+        kinds,
+        lengths,
+        places,
+        instants,
+    })
+}
+
+// Reads into columns of 33 entries, and shows the first entries and the last kind.
 fn reading(rt: &impl Print, image: &[u8]) -> io::Result<()> {
-    let mut kinds = [77u8; 33];
-    let mut lengths = [77u32; 33];
-    let mut places = [77u32; 33];
-    let mut instants = [77u64; 33];
-    show_reading(
-        rt,
-        read(image, &mut kinds, &mut lengths, &mut places, &mut instants),
-    )?;
-    entry(rt, kinds[0], lengths[0], places[0], instants[0])?;
-    small(rt, kinds[32])?;
-    println!(rt)
+    let Lent {
+        kinds,
+        lengths,
+        places,
+        instants,
+    } = read_into::<33, 33>(rt, image)?;
+    println!(rt;
+        "{} {} {} {} {} ",
+        kinds[0], lengths[0], places[0], instants[0], kinds[32]
+    )
 }
 
-// The same with one column that is one entry short of 32 events.
-fn reading_short(rt: &impl Print, image: &[u8]) -> io::Result<()> {
-    let mut kinds = [77u8; 33];
-    let mut lengths = [77u32; 33];
-    let mut places = [77u32; 33];
-    let mut instants = [77u64; 31];
-    show_reading(
-        rt,
-        read(image, &mut kinds, &mut lengths, &mut places, &mut instants),
-    )?;
-    small(rt, kinds[0])?;
-    number(rt, instants[0])?;
-    println!(rt)
-}
-
-// Reads an image that was cut within a block.
+// The same with an image that was cut within a block.
 fn cut(rt: &impl Print, image: &[u8]) -> io::Result<()> {
     if 1000 <= image.len() {
-        reading(rt, &image[0..1000])?;
+        reading(rt, &image[..1000])?;
     }
     Ok(())
 }
 
-fn store(image: &mut [u8], at: usize, value: u8) {
-    if at < image.len() {
-        image[at] = value;
-    }
+// The same with one column that is one entry short of 32 events.
+fn reading_short(rt: &impl Print, image: &[u8]) -> io::Result<()> {
+    let Lent {
+        kinds,
+        instants,
+        ..
+    } = read_into::<33, 31>(rt, image)?;
+    println!(rt; "{} {} ", kinds[0], instants[0])
 }
 
-// Reads an image of two blocks with one byte changed and the checks left as they were.
-fn torn(rt: &impl Print, image: [u8; 1024], at: usize, value: u8) -> io::Result<()> {
+// Reads into columns with room for one event more than a trace has, and shows the last two kinds and the last instant.
+fn reading_most(rt: &impl Print, image: &[u8]) -> io::Result<()> {
+    let Lent {
+        kinds,
+        instants,
+        ..
+    } = read_into::<1985, 1985>(rt, image)?;
+    println!(rt; "{} {} {} ", kinds[1983], kinds[1984], instants[1983])
+}
+
+// An image of two blocks with bytes changed, each told by its place, and the checks left as they were.
+fn changed(image: [u8; 1024], changes: &[(usize, u8)]) -> [u8; 1024] {
     let mut other = image;
-    store(&mut other, at, value);
-    reading(rt, &other)
+    for (at, value) in changes {
+        if let Some(byte) = other.get_mut(*at) {
+            *byte = *value;
+        }
+    }
+    other
 }
 
 // The same with both checks made right again.
-fn changed(rt: &impl Print, image: [u8; 1024], at: usize, value: u8) -> io::Result<()> {
-    let mut other = image;
-    store(&mut other, at, value);
+fn sealed(image: [u8; 1024], changes: &[(usize, u8)]) -> [u8; 1024] {
+    let mut other = changed(image, changes);
     seal(&mut other, 0);
     seal(&mut other, 512);
-    reading(rt, &other)
+    other
 }
 
-// Reads it with record 30 of block 0 made an advance of length 0, which keeps its place.
-fn placed_advance(rt: &impl Print, image: [u8; 1024]) -> io::Result<()> {
-    let mut other = image;
-    store(&mut other, 496, 3);
-    store(&mut other, 499, 0);
-    seal(&mut other, 0);
-    reading(rt, &other)
-}
+// One refusal after another; the last but two makes record 30 of block 0 an advance of length 0, which keeps its place.
+const CHANGES: [&[(usize, u8)]; 15] = [
+    &[(2, 2)],
+    &[(3, 30)],
+    &[(515, 0)],
+    &[(515, 32)],
+    &[(519, 2)],
+    &[(523, 101)],
+    &[(527, 1)],
+    &[(16, 4)],
+    &[(496, 0)],
+    &[(17, 1)],
+    &[(258, 9)],
+    &[(531, 0)],
+    &[(496, 3), (499, 0)],
+    &[(280, 1)],
+    &[(1023, 1)],
+];
 
 // Writes a packet of one length at place 7 and instant 9 for each kind, and shows the answer.
 fn writing(
     rt: &impl Print,
     alpha: u64,
-    ticks: u16,
+    ticks_per_byte: u16,
     kinds: &[u8],
     length: u32,
     image: &mut [u8],
 ) -> io::Result<()> {
-    let s = Settings {
+    let settings = Settings {
         alpha: Ticks(alpha),
-        ticks_per_byte: ticks,
+        ticks_per_byte,
     };
-    show_writing(
-        rt,
-        write(s, kinds, &[length; 32], &[7u32; 32], &[9u64; 32], image),
-    )
+    let columns = Columns {
+        kinds,
+        lengths: &[length; 32],
+        places: &[7; 32],
+        instants: &[9; 32],
+    };
+    show_writing(rt, write(settings, columns, image))
 }
 
+// Writes 32 packets, and gives the image of two blocks.
 fn written(rt: &impl Print) -> io::Result<[u8; 1024]> {
-    let mut image = [55u8; 1024];
-    writing(rt, 100, 1, &[1u8; 32], 50, &mut image)?;
+    let mut image = [55; 1024];
+    writing(rt, 100, 1, &[1; 32], 50, &mut image)?;
     println!(rt)?;
     Ok(image)
 }
 
 // The refusals of settings, lengths and events.
 fn unwritable(rt: &impl Print, image: &mut [u8]) -> io::Result<()> {
-    writing(rt, 0, 1, &[1u8; 32], 50, image)?;
-    writing(rt, 100, 65, &[1u8; 32], 50, image)?;
-    writing(rt, 100, 1, &[1u8; 31], 50, image)?;
-    writing(rt, 100, 1, &[4u8; 32], 50, image)?;
-    writing(rt, 100, 1, &[1u8; 32], 2049, image)
+    writing(rt, 0, 1, &[1; 32], 50, image)?;
+    writing(rt, 100, 65, &[1; 32], 50, image)?;
+    writing(rt, 100, 1, &[1; 31], 50, image)?;
+    writing(rt, 100, 1, &[4; 32], 50, image)?;
+    writing(rt, 100, 1, &[1; 32], 2049, image)
 }
 
 // These and the refusal of an image one byte short, and the image of 55s after them.
 fn writer_cases(rt: &impl Print) -> io::Result<()> {
     let mut image = [55u8; 1024];
     unwritable(rt, &mut image)?;
-    writing(rt, 100, 1, &[1u8; 32], 50, &mut image[1..])?;
-    small(rt, image[0])?;
-    small(rt, image[1023])?;
-    println!(rt)
+    writing(rt, 100, 1, &[1; 32], 50, &mut image[1..])?;
+    println!(rt; "{} {} ", image[0], image[1023])
 }
 
 // Writes as many advances, with zeros for lengths and places, and shows the answer.
@@ -180,44 +210,28 @@ fn advances(
     instants: &[u64],
     image: &mut [u8],
 ) -> io::Result<()> {
-    let s = Settings {
+    let settings = Settings {
         alpha: Ticks(1_000_000),
         ticks_per_byte: 64,
     };
-    show_writing(rt, write(s, kinds, zeros, zeros, instants, image))
-}
-
-// Reads into columns of 77s with room for one event more than a trace has, and shows the last two entries.
-fn reading_most(rt: &impl Print, image: &[u8]) -> io::Result<()> {
-    let mut kinds = [77u8; 1985];
-    let mut lengths = [77u32; 1985];
-    let mut places = [77u32; 1985];
-    let mut instants = [77u64; 1985];
-    show_reading(
-        rt,
-        read(image, &mut kinds, &mut lengths, &mut places, &mut instants),
-    )?;
-    small(rt, kinds[1983])?;
-    small(rt, kinds[1984])?;
-    number(rt, instants[1983])?;
-    println!(rt)
+    let columns = Columns {
+        kinds,
+        lengths: zeros,
+        places: zeros,
+        instants,
+    };
+    show_writing(rt, write(settings, columns, image))
 }
 
 // No event, one too many, and 1,984 events in 64 blocks, read again.
 fn counts(rt: &impl Print) -> io::Result<()> {
-    let kinds = [3u8; 1985];
-    let zeros = [0u32; 1985];
-    let instants = [1_000_000_000_000_000u64; 1985];
-    let mut image = [55u8; 32768];
-    advances(rt, &kinds[..0], &zeros[..0], &instants[..0], &mut image)?;
-    advances(rt, &kinds, &zeros, &instants, &mut image)?;
-    advances(
-        rt,
-        &kinds[..1984],
-        &zeros[..1984],
-        &instants[..1984],
-        &mut image,
-    )?;
+    let kinds = [3; 1985];
+    let zeros = [0; 1985];
+    let instants = [1_000_000_000_000_000; 1985];
+    let mut image = [55; 32768];
+    for n in [0, 1985, 1984] {
+        advances(rt, &kinds[..n], &zeros[..n], &instants[..n], &mut image)?;
+    }
     reading_most(rt, &image)
 }
 
@@ -228,22 +242,10 @@ fn main(rt: HostRuntime) -> io::Result<()> {
     reading_short(&rt, &image)?;
     cut(&rt, &image)?;
     reading(&rt, b"")?;
-    torn(&rt, image, 600, 1)?;
-    changed(&rt, image, 2, 2)?;
-    changed(&rt, image, 3, 30)?;
-    changed(&rt, image, 515, 0)?;
-    changed(&rt, image, 515, 32)?;
-    changed(&rt, image, 519, 2)?;
-    changed(&rt, image, 523, 101)?;
-    changed(&rt, image, 527, 1)?;
-    changed(&rt, image, 16, 4)?;
-    changed(&rt, image, 496, 0)?;
-    changed(&rt, image, 17, 1)?;
-    changed(&rt, image, 258, 9)?;
-    changed(&rt, image, 531, 0)?;
-    placed_advance(&rt, image)?;
-    changed(&rt, image, 280, 1)?;
-    changed(&rt, image, 1023, 1)?;
+    reading(&rt, &changed(image, &[(600, 1)]))?;
+    for changes in CHANGES {
+        reading(&rt, &sealed(image, changes))?;
+    }
     writer_cases(&rt)?;
     counts(&rt)
 }
