@@ -24,20 +24,22 @@ impl fmt::Display for Answer {
 // A packet: its flow, its length and its instant.
 type Packet = (u32, Bytes, Instant);
 
-// These packets on a marker with so many of these two flows.
-fn play(
-    rt: &impl Print,
-    count: u32,
-    first: Flow,
-    second: Flow,
-    packets: &[Packet],
-) -> io::Result<()> {
-    let asked = Flows {
+fn flow(rate: u32, depth: u32) -> Flow {
+    Flow { rate, depth }
+}
+
+// So many of these two flows, the second as often as it takes.
+fn flows(count: u32, first: Flow, second: Flow) -> Flows {
+    Flows {
         count,
         each: [
             first, second, second, second, second, second, second, second,
         ],
-    };
+    }
+}
+
+// These packets on a marker with these flows.
+fn play(rt: &impl Print, asked: Flows, packets: &[Packet]) -> io::Result<()> {
     let mut marker = marker::empty();
     let number = match marker::open(asked, &mut marker) {
         Ok(()) => 0,
@@ -94,31 +96,27 @@ const LEAST: [Packet; 4] = [
     (1, Bytes(1), Instant(1_000_000)),
 ];
 
-fn flow(rate: u32, depth: u32) -> Flow {
-    Flow { rate, depth }
-}
-
 fn play_limits(rt: &impl Print) -> io::Result<()> {
     let slow = flow(1, 100);
     let most = flow(10_000_000, 65_535);
-    play(rt, 8, most, most, &LEAST)?;
-    play(rt, 0, slow, slow, &LEAST)?;
-    play(rt, 9, flow(0, 0), flow(0, 0), &LEAST)?;
-    play(rt, 2, flow(1, 0), flow(0, 1), &LEAST)?;
-    play(rt, 1, flow(10_000_001, 1), slow, &LEAST)?;
-    play(rt, 2, slow, flow(1, 0), &LEAST)?;
-    play(rt, 1, flow(1, 65_536), slow, &LEAST)
+    play(rt, flows(8, most, most), &LEAST)?;
+    play(rt, flows(0, slow, slow), &LEAST)?;
+    play(rt, flows(9, flow(0, 0), flow(0, 0)), &LEAST)?;
+    play(rt, flows(2, flow(1, 0), flow(0, 1)), &LEAST)?;
+    play(rt, flows(1, flow(10_000_001, 1), slow), &LEAST)?;
+    play(rt, flows(2, slow, flow(1, 0)), &LEAST)?;
+    play(rt, flows(1, flow(1, 65_536), slow), &LEAST)
 }
 
 fn main(rt: HostRuntime) -> io::Result<()> {
     let slow = flow(1, 100);
-    play(&rt, 1, slow, slow, &EXACT)?;
+    play(&rt, flows(1, slow, slow), &EXACT)?;
     let slowest = flow(1, 2_048);
-    play(&rt, 1, slowest, slowest, &SPAN)?;
+    play(&rt, flows(1, slowest, slowest), &SPAN)?;
     let fastest = flow(10_000_000, 2_048);
-    play(&rt, 1, fastest, fastest, &SPAN)?;
+    play(&rt, flows(1, fastest, fastest), &SPAN)?;
     let least = flow(1, 1);
-    play(&rt, 1, least, least, &DEPTH)?;
-    play(&rt, 2, slow, slow, &REFUSED)?;
+    play(&rt, flows(1, least, least), &DEPTH)?;
+    play(&rt, flows(2, slow, slow), &REFUSED)?;
     play_limits(&rt)
 }

@@ -139,6 +139,7 @@ fn hold(f: usize, held: u64, at: Instant, marker: &mut Marker)
 }
 
 // A packet at the door: it is left unmarked and paid for, it is marked and nothing is taken, or it is refused and nothing is stored.
+// Flow, length and instant come one by one, as a C host and README's give them.
 pub fn mark(flow: u32, length: Bytes, at: Instant, marker: &mut Marker) -> Result<Marking, Refusal>
     requires { FromOpening marker.old }
     ensures { Marks marker.old (call_of flow length.0 at.0) result marker.new }

@@ -15,7 +15,8 @@ pub const RATE_MOST: u32 = 10_000_000;
 
 pub const DEPTH_MOST: u32 = 65_535;
 
-// What fills a flow's bucket, in bytes per 1,000,000 ticks, and what it holds at most, in bytes. A C host hands both structs over as they are.
+// What fills a flow's bucket, in bytes per 1,000,000 ticks, and what it holds at most, in bytes. A C host hands both structs over as they are,
+// so that a count stands beside the array.
 #[repr(C)]
 #[derive(Clone, Copy)]
 pub struct Flow {

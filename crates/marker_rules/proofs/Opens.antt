@@ -1,6 +1,6 @@
 -- An opening's flows are in range: those asked for, or the least. Assumes nothing.
 use mathlib.Core.Path.{◌≡◌, refl}
-use mathlib.Core.Bool.{Bool, true, false, not, ◌||◌}
+use mathlib.Core.Bool.{Bool, false, not}
 use mathlib.Core.List.{List, [], ◌∷◌}
 use mathlib.Core.Option.{Option, none, some}
 use Prim.Native.Nat.{ℕ, zero, suc, ◌≤◌, ◌<◌}
@@ -9,6 +9,9 @@ use lib.Dec.{leb}
 use lib.ListN.{length, get_or}
 use borrow.Author.Tests.{leb-true, not-false, le-leb}
 use Rattle.std.specs.List.{list_any}
+use Rattle.std.proofs.lemmas.Bool.{or_parts}
+use Rattle.std.proofs.lemmas.List.Elements.{All-from_get_or}
+use Rattle.std.proofs.lemmas.List.Folds.{list_any_none}
 use Rattle.refusals.specs.declared.Refusal.{Refusal}
 use Rattle.refusals.specs.First.{first_refusal}
 use Rattle.refusals.proofs.Laws.{passes, both, number-none}
@@ -29,19 +32,14 @@ within most x e =
 inside : (most x : ℕ) → 1 ≤ x → x ≤ most → not (in_range 1 most x) ≡ false
 inside most x l m = rw (le-leb 1 x l, le-leb x most m)
 
-neither : (a b : Bool) → (a || b) ≡ false → (a ≡ false) × (b ≡ false)
-neither true b e = (e, cc)
-neither false b e = (refl, e)
-
 -- None of the flows is out of range.
 none_out : (out : Flow → Bool) (ws : List Flow) (f : ℕ) → list_any out ws ≡ false → f < length ws → out (get_or ws f no_flow) ≡ false
 none_out out [] f e h = absurd (omega arith)
-none_out out (w ∷ ws) zero e h = (neither (out w) (list_any out ws) e).0
-none_out out (w ∷ ws) (suc f) e h = none_out out ws f (neither (out w) (list_any out ws) e).1 (omega arith)
+none_out out (w ∷ ws) zero e h = (or_parts (out w) (list_any out ws) e).0
+none_out out (w ∷ ws) (suc f) e h = none_out out ws f (or_parts (out w) (list_any out ws) e).1 (omega arith)
 
 all_in : (out : Flow → Bool) (ws : List Flow) → ((f : ℕ) → f < length ws → out (get_or ws f no_flow) ≡ false) → list_any out ws ≡ false
-all_in out [] h = refl
-all_in out (w ∷ ws) h = rw (h 0 (omega arith)) (all_in out ws (λ f l. h (suc f) (omega arith)))
+all_in out ws h = list_any_none out ws (All-from_get_or (λ (w : Flow). out w ≡ false) ws no_flow h)
 
 pub in_range_lem : (ws : List Flow) → first_refusal (open_tests ws) ≡ none → InRange ws
 in_range_lem ws e =

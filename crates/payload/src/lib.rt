@@ -44,7 +44,7 @@ fn area<'a>(unmarked: &'a [u8], marked: &'a [u8], marking: Marking) -> &'a [u8]
     }
 }
 
-// The payload itself: that part of the area that the marking names, or an empty part.
+// The payload itself: that part of the area that the marking names, or an empty part. One function over two lent areas, as document 01 has it.
 pub fn view<'a>(
     unmarked: &'a [u8],
     marked: &'a [u8],
