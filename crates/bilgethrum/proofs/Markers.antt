@@ -1,10 +1,15 @@
 -- The marker's calls for a C host, from the marker's promises. Assumes nothing.
 use mathlib.Core.Path.{◌≡◌, refl, sym, ap, subst, subst⁻¹, ◌∙◌}
+use mathlib.Core.Bool.{false}
 use mathlib.Core.List.{List, [], ◌∷◌, map}
-use mathlib.Core.Option.{Option}
 use Prim.Native.Nat.{ℕ}
+use native.Mathlib.Omega.{arith}
+use lib.Dec.{eqb}
+use Rattle.std.proofs.lemmas.Bool.{ne_eqb}
 use Rattle.std.specs.Prelude.{Result, Ok, Err}
 use Rattle.refusals.specs.declared.Refusal.{Refusal}
+use Rattle.refusals.specs.Numbers.{number}
+use Rattle.refusals.proofs.Laws.{number_least}
 use Rattle.refusals.proofs.Named.{named_number}
 use Rattle.units.specs.declared.Marking.{Marking}
 use Rattle.marker_flows.specs.declared.Flows.{Flows}
@@ -21,7 +26,7 @@ use Rattle.marker.proofs.Follows.{all-faithful}
 use Rattle.marker_guarantees.proofs.Kept.{bounds}
 use Rattle.bilgethrum_values.specs.declared.HostMarking.{HostMarking}
 use Rattle.bilgethrum_values.specs.Host.{host_marker_opening, host_marking}
-use Rattle.bilgethrum.specs.Markers.{HostOpensMarker, HostMarks, marking_read, markings_read, told_numbers, AllMarkingsFaithful, taken_by, answer_taken, host_told, HostBounds, OneHostMarkerOpening, OneHostMarking}
+use Rattle.bilgethrum.specs.Markers.{HostOpensMarker, HostMarks, marking_read, markings_read, told_numbers, AllMarkingsFaithful, answer_taken, host_told, HostBounds, OneHostMarkerOpening, OneHostMarking}
 
 pub opens-marker : (asked : Flows) (before : Words) (r : Result (Unit {0}) Refusal) (n : ℕ) (left : Words) → Opens asked before r left → n ≡ host_marker_opening r
     → HostOpensMarker asked before n left
@@ -51,7 +56,9 @@ all_markings_faithful asked before z cs =
 taken : (a : Result Marking Refusal) → answer_taken (host_marking a).refusal (host_marking a).marked ≡ answer_read a
 taken (Ok Marking.Unmarked) = refl
 taken (Ok Marking.Marked) = refl
-taken (Err r) = ap (λ (o : Option Refusal). taken_by o 0) (named_number r)
+taken (Err r) =
+    let refused : eqb (number r) 0 ≡ false = ne_eqb (number r) 0 (λ e. omega (arith, number_least r)) in
+    rw (refused, named_number r) refl
 
 taken-told : (w : Words) (cs : List Call) → host_told w cs ≡ told_by w cs
 unfolding host_told told_by

@@ -46,13 +46,14 @@ AllMarkingsFaithful =
     → (cs : List Call)
     → markings_read (open_words asked before) cs ≡ map told_numbers (told (in_force asked) (fresh (in_force asked)) cs)
 
--- The answer as a host takes it from these numbers: refused where the first is a refusal's, which 0 is not, else marked where the other is not 0.
-abbrev pub taken_by : Option Refusal → (marked : ℕ) → Answer
-taken_by (some r) m = refused r
-taken_by none m = cond (eqb m 0) unmarked marked
+-- The refusal of a number; which it is of a number that is none's does not matter.
+abbrev pub refusal_taken : Option Refusal → Refusal
+refusal_taken none = Refusal.Flow
+refusal_taken (some r) = r
 
+-- The answer as a host takes it from these numbers: refused where the refusal is not 0, else marked where the other is not.
 abbrev pub answer_taken : (refusal marked : ℕ) → Answer
-answer_taken n m = taken_by (named n) m
+answer_taken n m = cond (eqb n 0) (cond (eqb m 0) unmarked marked) (refused (refusal_taken (named n)))
 
 -- The calls with the answers that the host takes.
 unfoldable pub host_told : Words → List Call → List Told

@@ -22,19 +22,19 @@ use units::{Bytes, Instant, Marking, Ticks};
 #[repr(C)]
 #[derive(Clone, Copy)]
 pub struct FlowWords {
-    rate: u64,
-    top: u64,
-    held: u64,
-    looked: u64,
+    pub rate: u64,
+    pub top: u64,
+    pub held: u64,
+    pub looked: u64,
 }
 
 // The instant of the last accepted call, how many flows were opened, and the words of each.
 #[repr(C)]
 #[derive(Clone, Copy)]
 pub struct Marker {
-    clock: u64,
-    count: u64,
-    flows: [FlowWords; FLOWS_MOST],
+    pub clock: u64,
+    pub count: u64,
+    pub flows: [FlowWords; FLOWS_MOST],
 }
 
 // Words to lend; whatever stands in them counts for nothing.

@@ -59,7 +59,8 @@ fn admit_unmarked(scheduler: Scheduler, packet: Packet, room: &mut Room) -> Arri
     ensures left { room.new ≡ admit_entry scheduler room.old packet }
 {
     let number = scheduler.tallies.admissions() + 1;
-    let own = scheduler.own_delay(packet.arrival);
+    let waiting = scheduler.tallies.waiting(Marking::Unmarked);
+    let own = scheduler.own_delay(waiting, packet.arrival);
     let less = scheduler.difference(own);
     room::enter(scheduler.tallies.admitted.unmarked, number, less, room);
     let time = units::transmission_time(scheduler.settings, packet.length);

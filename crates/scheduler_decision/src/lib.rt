@@ -88,8 +88,9 @@ fn sent(scheduler: Scheduler, head: Packet) -> bool
     requires { Small scheduler × ((time_of scheduler head).0 ≤ times_most) }
     ensures { result ≡ sent_of scheduler head }
 {
+    let waiting = scheduler.tallies.waiting(Marking::Unmarked);
     let time = units::transmission_time(scheduler.settings, head.length);
-    head.marking == Marking::Marked && scheduler.fits(time)
+    head.marking == Marking::Marked && scheduler.fits(waiting, time)
 }
 
 // The marked packet at the head starts.

@@ -2,7 +2,6 @@
 #![tactic(auto)]
 
 ghost use Rattle.std.specs.Prelude.{◌≡◌, ◌+◌, ◌-◌, ◌≤◌};
-ghost use Rattle.units.specs.declared.Marking.TheVariants.{Unmarked};
 ghost use Rattle.units.specs.Limits.{alpha_most, instant_most};
 ghost use Rattle.scheduler_state.specs.Counts.{admissions_of, gone_of, waiting_of, waits_of, Counted};
 ghost use Rattle.scheduler_state.specs.Parts.{fresh_of, idle_at};
@@ -123,22 +122,20 @@ impl Scheduler {
     }
 
     // Whether a new unmarked packet has a predecessor: one waits, or is on the line and ends after this instant.
-    fn follows(self, at: Instant) -> bool
-        requires { Counted self.tallies }
-        ensures { result ≡ follows_of self.line (waiting_of Unmarked self.tallies) at }
+    fn follows(self, waiting: u32, at: Instant) -> bool
+        ensures { result ≡ follows_of self.line waiting at }
     {
-        self.tallies.waiting(Marking::Unmarked) != 0
-            || (self.line.last == Marking::Unmarked && at < self.line.free)
+        waiting != 0 || (self.line.last == Marking::Unmarked && at < self.line.free)
     }
 
-    // The extra delay of a new unmarked packet.
-    pub fn own_delay(self, at: Instant) -> Ticks
-        requires { Counted self.tallies × (self.line.free.0 ≤ instant_most + times_most) × (self.extra.sum.0 ≤ times_most) }
-        ensures { result ≡ own_of self.line self.extra (waiting_of Unmarked self.tallies) at }
+    // The extra delay of a new unmarked packet, where so many wait.
+    pub fn own_delay(self, waiting: u32, at: Instant) -> Ticks
+        requires { (self.line.free.0 ≤ instant_most + times_most) × (self.extra.sum.0 ≤ times_most) }
+        ensures { result ≡ own_of self.line self.extra waiting at }
     {
         let rest = self.line.free.0.saturating_sub(at.0);
         let ahead = Ticks(rest + self.extra.sum.0);
-        if self.follows(at) {
+        if self.follows(waiting, at) {
             return self.extra.last.min(ahead);
         }
         ahead
@@ -151,13 +148,12 @@ impl Scheduler {
         Ticks(self.extra.last.0.saturating_sub(own.0))
     }
 
-    // Whether a marked packet of this transmission time may start before the first waiting unmarked one.
-    pub fn fits(self, time: Ticks) -> bool
-        requires { Counted self.tallies × (self.extra.first.0 ≤ alpha_most) × (time.0 ≤ times_most) }
-        ensures { result ≡ fits_of self.settings self.extra (waiting_of Unmarked self.tallies) time }
+    // Whether a marked packet of this transmission time may start before the first of so many waiting unmarked ones.
+    pub fn fits(self, waiting: u32, time: Ticks) -> bool
+        requires { (self.extra.first.0 ≤ alpha_most) × (time.0 ≤ times_most) }
+        ensures { result ≡ fits_of self.settings self.extra waiting time }
     {
-        self.tallies.waiting(Marking::Unmarked) == 0
-            || Ticks(self.extra.first.0 + time.0) <= self.settings.alpha
+        waiting == 0 || Ticks(self.extra.first.0 + time.0) <= self.settings.alpha
     }
 
     // The same scheduler, the parts with unused bytes copied number by number. A copy of the whole, as `Clone` makes, moves those bytes too, and the
