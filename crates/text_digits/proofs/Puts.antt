@@ -30,19 +30,22 @@ put-between : {l m xs : List ℕ} {at : ℕ} → at + length xs ≤ length l →
 put-between {l} {m} {xs} {at} h after before =
     record { place = refl; stored = sym (take-append-drop at m) ∙ rw (before, after, ← append_assoc (take at l)) (sym (sets-eq xs l at h)) }
 
--- A number as the library writes it, up to the end of its digits.
+-- A number as the library writes it, from r up to the end of its digits.
 pub put_digits :
-    (r : ℕ) {l m : List ℕ} {at v : ℕ}
+    (r : ℕ) {l m : List ℕ} {at end v : ℕ}
     → v < 2 ^ 64
-    → at + length (decimal v) ≤ length l
-    → r + length (std.decimal v) ≡ at + length (decimal v)
-    → drop r m ≡ std.decimal v ++ drop (at + length (decimal v)) l
+    → end ≤ length l
+    → end ≡ at + length (decimal v)
+    → r + length (std.decimal v) ≡ end
+    → drop r m ≡ std.decimal v ++ drop end l
     → take r m ≡ take r l
-    → Put l at (decimal v) m (at + length (decimal v))
-put_digits r {l} {m} {at} {v} b h start after before =
+    → Put l at (decimal v) m end
+put_digits r {l} {m} {at} {end} {v} b h is start after before =
     let e = decimal-std v b in
     let s : r ≡ at = omega (arith, ap length e) in
-    put-between h (ap (λ (k : ℕ). drop k m) (sym s) ∙ after ∙ ap (λ (t : List ℕ). t ++ drop (at + length (decimal v)) l) (sym e)) (ap (λ (k : ℕ). take k m) (sym s) ∙ before ∙ ap (λ (k : ℕ). take k l) s)
+    rw is
+    (put-between (rw is at h) (rw (← is, e) (ap (λ (k : ℕ). drop k m) (sym s) ∙ after))
+    (ap (λ (k : ℕ). take k m) (sym s) ∙ before ∙ ap (λ (k : ℕ). take k l) s))
 
 pub word_digits : (v : ℕ) → v < 65536 → hexadecimal v ≡ hex_digit (v / 4096) ∷ hex_digit (v / 256 % 16) ∷ hex_digit (v / 16 % 16) ∷ hex_digit (v % 16) ∷ []
 unfolding hexadecimal hex_digits_in

@@ -19,13 +19,14 @@ pub struct Area<'a> {
 }
 
 impl<'a> Area<'a> {
-    // One byte.
+    // One byte. Here and in `put_field` the place is read before a byte is put: for all that the compiler knows, the byte could lie on it.
     pub fn put_byte(&mut self, b: u8)
         requires { self.old.at + 1 ≤ length self.old.out.now }
         ensures { Puts self.old (b ∷ []) self.new }
     {
-        self.out[self.at] = b;
-        self.at += 1;
+        let at = self.at;
+        self.out[at] = b;
+        self.at = at + 1;
     }
 
     // A space and a number.
@@ -34,8 +35,8 @@ impl<'a> Area<'a> {
         requires { self.old.at + length (field_text v) ≤ length self.old.out.now }
         ensures { Puts self.old (field_text v) self.new }
     {
+        let end = self.at + 1 + decimal_length(v);
         self.put_byte(SPACE);
-        let end = self.at + decimal_length(v);
         write_digits(v, self.out, end);
         self.at = end;
     }

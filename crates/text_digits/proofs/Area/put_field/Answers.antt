@@ -9,9 +9,9 @@ write_digits-requires c = rw (← decimal-std c.args.v c.ranges.v.fits) (grind (
 
 pub returns : goal.returns
 returns c =
-    let room = put_length c.put_byte.ensures.put in
+    let space = c.put_byte.ensures.put in
     let digits = c.write_digits.ensures in
     record {
-      put = put_then c.put_byte.ensures.put (rw c.decimal_length.ensures (put_digits _ c.ranges.v.fits (grind (arith, room)) (rw (← c.decimal_length.ensures) digits.start) (rw (← c.decimal_length.ensures) digits.written) digits.before));
+      put = put_then space (put_digits _ c.ranges.v.fits (grind (arith, put_length space)) (omega (arith, space.place, c.decimal_length.ensures)) digits.start digits.written digits.before);
       lent = c.put_byte.ensures.lent;
     }
