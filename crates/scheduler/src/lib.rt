@@ -1,5 +1,6 @@
 // The scheduler for one line: `open`, `arrive`, `advance`, over a scheduler by value and a waiting room that the caller lends. It passes on the types of
-// its answers and of the room.
+// its answers and of the room. The two are no one struct: the caller lends the room, and `FromOpening`, which every call asks of both, is document 01's
+// premise and the theorems'.
 #![tactic(auto)]
 
 ghost use Rattle.scheduler.specs.Machine.{FromOpening};
@@ -34,7 +35,7 @@ pub fn arrive(scheduler: Scheduler, packet: Packet, room: &mut Room) -> Arrived
     ensures { Arrives scheduler room.old packet result room.new }
 {
     let rank = scheduler.tallies.gone();
-    let head = room::packet_at(rank, room);
+    let head = room.packet_at(rank);
     let judged = scheduler_refusals::judge_arrival(
         scheduler,
         head.arrival,
@@ -69,7 +70,7 @@ pub fn advance(scheduler: Scheduler, at: Instant, room: &Room) -> Advanced
         };
     }
     let rank = scheduler.tallies.gone();
-    let head = room::packet_at(rank, room);
+    let head = room.packet_at(rank);
     let due = scheduler_refusals::due(scheduler.line, head.arrival);
     if at < due {
         return Advanced {

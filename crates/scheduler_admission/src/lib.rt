@@ -29,7 +29,7 @@ fn joined(scheduler: Scheduler, time: Ticks, own: Ticks) -> Extra
     extra
 }
 
-// A marked packet is admitted at this instant.
+// A marked packet is admitted at this instant. Here and below a pair by marking stays two functions: what they count, delay and promise differs.
 pub fn admitted_marked(scheduler: Scheduler, at: Instant) -> Scheduler
     requires { scheduler.tallies.admitted.marked < admissions_most }
     ensures { result ≡ admitted_marked scheduler at }
@@ -62,7 +62,7 @@ fn admit_unmarked(scheduler: Scheduler, packet: Packet, room: &mut Room) -> Arri
     let waiting = scheduler.tallies.waiting(Marking::Unmarked);
     let own = scheduler.own_delay(waiting, packet.arrival);
     let less = scheduler.difference(own);
-    room::enter(scheduler.tallies.admitted.unmarked, number, less, room);
+    room.enter(scheduler.tallies.admitted.unmarked, number, less);
     let time = units::transmission_time(scheduler.settings, packet.length);
     Arrived {
         answer: Ok(Admitted::Unmarked { number, extra: own }),
@@ -89,7 +89,7 @@ pub fn admit(scheduler: Scheduler, packet: Packet, room: &mut Room) -> Arrived
     ensures left { room.new ≡ admit_room scheduler room.old packet }
 {
     let rank = scheduler.tallies.admissions();
-    room::put(packet, rank, room);
+    room.put(packet, rank);
     match packet.marking {
         Marking::Unmarked => admit_unmarked(scheduler, packet, room),
         Marking::Marked => admit_marked(scheduler, packet),

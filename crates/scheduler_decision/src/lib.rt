@@ -43,7 +43,8 @@ fn passed(scheduler: Scheduler, time: Ticks, difference: Ticks) -> Extra
     extra
 }
 
-// A marked packet starts at the due instant; the clock is at `at`.
+// A marked packet starts at the due instant; the clock is at `at`. Here and below a pair by marking stays two functions: what they count, delay and
+// promise differs.
 pub fn started_marked(scheduler: Scheduler, due: Instant, time: Ticks, at: Instant) -> Scheduler
     requires { Small scheduler × (scheduler.tallies.started.marked < admissions_most) × (due.0 ≤ instant_most) × (time.0 ≤ times_most) }
     ensures { result ≡ started_marked scheduler due time at }
@@ -119,11 +120,11 @@ fn start_first(scheduler: Scheduler, due: Instant, at: Instant, room: &Room) -> 
     ensures { result ≡ start_first scheduler room.now due at }
 {
     let turn = scheduler.tallies.started.unmarked;
-    let number = room::number_of(turn, room);
-    let packet = room::packet_at(number - 1, room);
+    let number = room.number_of(turn);
+    let packet = room.packet_at(number - 1);
     let dropped = number - 1 - scheduler.tallies.gone();
     let time = units::transmission_time(scheduler.settings, packet.length);
-    let less = room::difference_of(turn + 1, room);
+    let less = room.difference_of(turn + 1);
     let extra = scheduler.extra.first;
     let start = Start {
         number,

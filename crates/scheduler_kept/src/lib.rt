@@ -20,19 +20,19 @@ pub fn keep(scheduler: Scheduler, room: &mut Room)
         extra,
         tallies,
     } = scheduler;
-    room::keep_long(settings.alpha.0, 0, room);
-    room::keep(u32::from(settings.ticks_per_byte), 2, room);
-    room::keep_long(clock.0, 3, room);
-    room::keep_long(line.free.0, 5, room);
-    room::keep(u32::from(line.last), 7, room);
-    room::keep_long(extra.sum.0, 8, room);
-    room::keep_long(extra.first.0, 10, room);
-    room::keep_long(extra.last.0, 12, room);
-    room::keep(tallies.admitted.unmarked, 14, room);
-    room::keep(tallies.admitted.marked, 15, room);
-    room::keep(tallies.started.unmarked, 16, room);
-    room::keep(tallies.started.marked, 17, room);
-    room::keep(tallies.dropped, 18, room);
+    room.keep_long(settings.alpha.0, 0);
+    room.keep(u32::from(settings.ticks_per_byte), 2);
+    room.keep_long(clock.0, 3);
+    room.keep_long(line.free.0, 5);
+    room.keep(u32::from(line.last), 7);
+    room.keep_long(extra.sum.0, 8);
+    room.keep_long(extra.first.0, 10);
+    room.keep_long(extra.last.0, 12);
+    room.keep(tallies.admitted.unmarked, 14);
+    room.keep(tallies.admitted.marked, 15);
+    room.keep(tallies.started.unmarked, 16);
+    room.keep(tallies.started.marked, 17);
+    room.keep(tallies.dropped, 18);
 }
 
 // Gives back the scheduler that is kept in the room.
@@ -41,30 +41,30 @@ pub fn scheduler_in(room: &Room) -> Scheduler
 {
     Scheduler {
         settings: Settings {
-            alpha: Ticks(room::kept_long(0, room)),
+            alpha: Ticks(room.kept_long(0)),
             // 16 bits are kept there, and more never.
-            ticks_per_byte: (room::kept(2, room) % 65536) as u16,
+            ticks_per_byte: (room.kept(2) % 65536) as u16,
         },
-        clock: Instant(room::kept_long(3, room)),
+        clock: Instant(room.kept_long(3)),
         line: Line {
-            free: Instant(room::kept_long(5, room)),
-            last: Marking::from(room::kept(7, room)),
+            free: Instant(room.kept_long(5)),
+            last: Marking::from(room.kept(7)),
         },
         extra: Extra {
-            sum: Ticks(room::kept_long(8, room)),
-            first: Ticks(room::kept_long(10, room)),
-            last: Ticks(room::kept_long(12, room)),
+            sum: Ticks(room.kept_long(8)),
+            first: Ticks(room.kept_long(10)),
+            last: Ticks(room.kept_long(12)),
         },
         tallies: Tallies {
             admitted: Each {
-                unmarked: room::kept(14, room),
-                marked: room::kept(15, room),
+                unmarked: room.kept(14),
+                marked: room.kept(15),
             },
             started: Each {
-                unmarked: room::kept(16, room),
-                marked: room::kept(17, room),
+                unmarked: room.kept(16),
+                marked: room.kept(17),
             },
-            dropped: room::kept(18, room),
+            dropped: room.kept(18),
         },
     }
 }

@@ -14,7 +14,8 @@ use refusals::Refusal;
 use scheduler_state::{Line, Scheduler};
 use units::{Bytes, Instant, Marking, Settings};
 
-// 64 packets of each marking wait at most, and there are 4,294,967,295 admissions since opening at most.
+// 64 packets of each marking wait at most, and there are 4,294,967,295 admissions since opening at most: the limits of document 01's table, apart from
+// the sizes of the room and the width of a tally.
 pub const WAITING_MOST: u32 = 64;
 
 pub const ADMISSIONS_MOST: u32 = 4_294_967_295;
