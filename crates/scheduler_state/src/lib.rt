@@ -54,27 +54,28 @@ pub struct Scheduler {
 
 // `Counted`, which these ask, is no invariant of the type: a host's room may hold any words where its tallies are kept, and `scheduler_in` and
 // `bilgethrum_tally` read them as they stand.
+// They borrow the tallies, since a copy of 20 bytes is made of overlapping pieces, which a loop over calls would keep in memory.
 impl Tallies {
     // How many packets were admitted.
-    pub fn admissions(self) -> u32
-        requires { Counted self }
-        ensures { result ≡ admissions_of self }
+    pub fn admissions(&self) -> u32
+        requires { Counted self.now }
+        ensures { result ≡ admissions_of self.now }
     {
         self.admitted.unmarked + self.admitted.marked
     }
 
     // How many packets started or were dropped.
-    pub fn gone(self) -> u32
-        requires { Counted self }
-        ensures { result ≡ gone_of self }
+    pub fn gone(&self) -> u32
+        requires { Counted self.now }
+        ensures { result ≡ gone_of self.now }
     {
         self.started.unmarked + self.started.marked + self.dropped
     }
 
     // How many packets of a marking wait.
-    pub fn waiting(self, marking: Marking) -> u32
-        requires { Counted self }
-        ensures { result ≡ waiting_of marking self }
+    pub fn waiting(&self, marking: Marking) -> u32
+        requires { Counted self.now }
+        ensures { result ≡ waiting_of marking self.now }
     {
         match marking {
             Marking::Unmarked => self.admitted.unmarked - self.started.unmarked,
@@ -83,9 +84,9 @@ impl Tallies {
     }
 
     // Whether a packet waits.
-    pub fn waits(self) -> bool
-        requires { Counted self }
-        ensures { result ≡ waits_of self }
+    pub fn waits(&self) -> bool
+        requires { Counted self.now }
+        ensures { result ≡ waits_of self.now }
     {
         self.gone() != self.admissions()
     }
@@ -122,16 +123,16 @@ impl Scheduler {
     }
 
     // Whether a new unmarked packet has a predecessor: one waits, or is on the line and ends after this instant.
-    fn follows(self, waiting: u32, at: Instant) -> bool
-        ensures { result ≡ follows_of self.line waiting at }
+    fn follows(&self, waiting: u32, at: Instant) -> bool
+        ensures { result ≡ follows_of self.now.line waiting at }
     {
         waiting != 0 || (self.line.last == Marking::Unmarked && at < self.line.free)
     }
 
     // The extra delay of a new unmarked packet, where so many wait.
-    pub fn own_delay(self, waiting: u32, at: Instant) -> Ticks
-        requires { (self.line.free.0 ≤ instant_most + times_most) × (self.extra.sum.0 ≤ times_most) }
-        ensures { result ≡ own_of self.line self.extra waiting at }
+    pub fn own_delay(&self, waiting: u32, at: Instant) -> Ticks
+        requires { (self.now.line.free.0 ≤ instant_most + times_most) × (self.now.extra.sum.0 ≤ times_most) }
+        ensures { result ≡ own_of self.now.line self.now.extra waiting at }
     {
         let rest = self.line.free.0.saturating_sub(at.0);
         let ahead = Ticks(rest + self.extra.sum.0);
@@ -142,21 +143,21 @@ impl Scheduler {
     }
 
     // By how much it is less than its predecessor's, where one waits.
-    pub fn difference(self, own: Ticks) -> Ticks
-        ensures { result.0 ≡ self.extra.last.0 - own.0 }
+    pub fn difference(&self, own: Ticks) -> Ticks
+        ensures { result.0 ≡ self.now.extra.last.0 - own.0 }
     {
         Ticks(self.extra.last.0.saturating_sub(own.0))
     }
 
     // Whether a marked packet of this transmission time may start before the first of so many waiting unmarked ones.
-    pub fn fits(self, waiting: u32, time: Ticks) -> bool
-        requires { (self.extra.first.0 ≤ alpha_most) × (time.0 ≤ times_most) }
-        ensures { result ≡ fits_of self.settings self.extra waiting time }
+    pub fn fits(&self, waiting: u32, time: Ticks) -> bool
+        requires { (self.now.extra.first.0 ≤ alpha_most) × (time.0 ≤ times_most) }
+        ensures { result ≡ fits_of self.now.settings self.now.extra waiting time }
     {
         waiting == 0 || Ticks(self.extra.first.0 + time.0) <= self.settings.alpha
     }
 
-    // The same scheduler, the parts with unused bytes copied number by number. A copy of the whole, as `Clone` makes, moves those bytes too, and the
+    // The same scheduler, the parts beside unused bytes copied number by number. A copy of the whole, as `Clone` makes, moves those bytes too, and the
     // compiler keeps them in memory: in a loop each turn then waits for the copy before.
     pub fn copied(self) -> Scheduler
         ensures { result ≡ self }
@@ -172,7 +173,11 @@ impl Scheduler {
                 last: self.line.last,
             },
             extra: self.extra,
-            tallies: self.tallies,
+            tallies: Tallies {
+                admitted: self.tallies.admitted,
+                started: self.tallies.started,
+                dropped: self.tallies.dropped,
+            },
         }
     }
 }
