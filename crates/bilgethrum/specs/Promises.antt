@@ -1,4 +1,4 @@
--- The promises of the calls for C hosts, through the definitions of the calls below them. A line is the list of a host's words. Assumes nothing.
+-- The promises of the calls for C hosts, through the definitions of the calls below them. A line is a room, the words that a host lends. Assumes nothing.
 use Rattle.std.specs.Prelude.{◌≡◌, List, ℕ, eqb, length, Result}
 use Rattle.std.proofs.Math.Option.{none}
 use Rattle.refusals.specs.declared.Refusal.{Refusal}

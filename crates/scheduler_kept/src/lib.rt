@@ -1,4 +1,4 @@
-// The scheduler in words of the room, for a host that holds one array for both. The functions serve the crate `bilgethrum` only.
+// The scheduler in words of the room, for a host that holds one block of words for both. The functions serve the crate `bilgethrum` only.
 #![tactic(auto)]
 
 ghost use Rattle.std.specs.Prelude.{◌≡◌};
