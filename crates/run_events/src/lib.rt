@@ -11,6 +11,7 @@ ghost use Rattle.run_events.specs.Plays.{Plays};
 ghost use Rattle.run_events.specs.Trace.{trace_text};
 ghost use Rattle.run_events.specs.Tells.{Tells};
 
+use block_header::{blocks_for, count_in};
 use block_image::event_in;
 use block_record::Event;
 use room::{Packet, Room};
@@ -19,9 +20,6 @@ use scheduler_state::Scheduler;
 use text_answers::{tell_admission, tell_advance, tell_tallies};
 use text_digits::Area;
 use units::{Instant, Marking, Settings};
-
-// How many events a block has, unless it is the last.
-const BLOCK_EVENTS: usize = 31;
 
 // An event as the call that it is.
 #[derive(Clone, Copy)]
@@ -96,9 +94,8 @@ fn tell_events(
     ensures { Tells image.now events scheduler room.old area.old area.new result }
 {
     let mut then = scheduler;
-    for block in 0..events.div_ceil(BLOCK_EVENTS) {
-        let left = events - BLOCK_EVENTS * block;
-        for i in 0..left.min(BLOCK_EVENTS) {
+    for block in 0..blocks_for(events) {
+        for i in 0..count_in(events, block) {
             let event = event_in(image, block, i);
             let played = play(event, then, room, area);
             then = played.copied();
