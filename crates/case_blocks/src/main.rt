@@ -1,15 +1,16 @@
 // RFC 1071's own examples; each refusal of the reader and the writer reached, with its block, its record and the lent memory shown; a trace that fills 64 blocks.
 #![tactic(auto)]
 
+use block::BLOCK;
 use block_check::{check_of, sum};
 use block_columns::Columns;
-use block_image::{ImageRefusal, Trace};
+use block_image::{BLOCKS_MOST, ImageRefusal, Trace};
 use block_layout::seal;
 use block_reader::read;
 use block_writer::write;
 use refusals::Refusal;
 use std::io;
-use units::{Settings, Ticks};
+use units::{INSTANT_MOST, Settings, Ticks};
 
 // RFC 1071's own examples: the sum of section 3 in its two byte orders, an odd last byte as the high half of a word, and checks;
 // and a sum that one fold would leave a carry in.
@@ -132,7 +133,7 @@ fn changed(image: [u8; 1024], changes: &[(usize, u8)]) -> [u8; 1024] {
 fn sealed(image: [u8; 1024], changes: &[(usize, u8)]) -> [u8; 1024] {
     let mut other = changed(image, changes);
     seal(&mut other, 0);
-    seal(&mut other, 512);
+    seal(&mut other, BLOCK);
     other
 }
 
@@ -227,8 +228,8 @@ fn advances(
 fn counts(rt: &impl Print) -> io::Result<()> {
     let kinds = [3; 1985];
     let zeros = [0; 1985];
-    let instants = [1_000_000_000_000_000; 1985];
-    let mut image = [55; 32768];
+    let instants = [INSTANT_MOST; 1985];
+    let mut image = [55; BLOCKS_MOST * BLOCK];
     for n in [0, 1985, 1984] {
         advances(rt, &kinds[..n], &zeros[..n], &instants[..n], &mut image)?;
     }
