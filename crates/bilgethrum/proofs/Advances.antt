@@ -1,13 +1,17 @@
 -- An advance for a C host, from the scheduler's: what it leaves is kept, or nothing is changed. Assumes nothing.
-use mathlib.Core.Path.{◌≡◌, refl, ap, subst⁻¹, ◌∙◌}
+use mathlib.Core.Path.{◌≡◌, refl, sym, ap, subst⁻¹, ◌∙◌}
 use mathlib.Core.Bool.{Bool, true, false}
 use mathlib.Core.List.{[], ◌∷◌}
 use Prim.Native.Nat.{ℕ}
+use native.Mathlib.Omega.{arith}
 use lib.Dec.{eqb}
 use borrow.Author.Tests.{eqb-false}
+use Rattle.std.proofs.lemmas.Bool.{ne_eqb}
+use Rattle.std.specs.Result.{is_ok}
 use Rattle.std.specs.Prelude.{Option, Some, None, Result, Ok, Err}
 use Rattle.refusals.specs.declared.Refusal.{Refusal}
 use Rattle.refusals.specs.Numbers.{number}
+use Rattle.refusals.proofs.Laws.{number_least}
 use Rattle.units.specs.declared.Instant.{Instant}
 use Rattle.rules.specs.Step.{advance}
 use Rattle.room.specs.declared.Room.{Room}
@@ -23,7 +27,7 @@ use Rattle.scheduler_guarantees.proofs.Unchanged.{refused-unchanged}
 use Rattle.scheduler_kept.specs.Words.{scheduler_in}
 use Rattle.bilgethrum_values.specs.declared.HostDecision.{HostDecision}
 use Rattle.bilgethrum_values.specs.Host.{host_decision}
-use Rattle.bilgethrum.specs.Promises.{OnLine, keeping, if_accepted, advanced, advanced_words, HostAdvances}
+use Rattle.bilgethrum.specs.Promises.{OnLine, keeping, advanced, advanced_words, HostAdvances}
 use Rattle.bilgethrum.proofs.Kept.{keep_alike, steps_on}
 
 -- An answer with a refusal number is a refusal.
@@ -31,6 +35,12 @@ refusal : (a : Result (Option Start) Refusal) → ((host_decision a).refusal ≡
 refusal (Ok (Some x)) h = absurd (h refl)
 refusal (Ok None) h = absurd (h refl)
 refusal (Err r) h = (number r, refl)
+
+-- The refusal number is 0 where the call is accepted.
+told-accepted : (a : Result (Option Start) Refusal) → is_ok a ≡ eqb (host_decision a).refusal 0
+told-accepted (Ok (Some x)) = refl
+told-accepted (Ok None) = refl
+told-accepted (Err r) = sym (ne_eqb (number r) 0 (λ e. omega (arith, number_least r)))
 
 module _ (b : Room) (t : ℕ) where
   abbrev s : Scheduler
@@ -69,5 +79,5 @@ module _ (b : Room) (t : ℕ) where
     value : x ≡ given
     value = e ∙ ap (λ (y : Advanced). host_decision y.answer) h.value
 
-    pub host_advances : (then : Room) → then ≡ if_accepted x.refusal (keeping a.scheduler b) b → HostAdvances b t x then
-    host_advances then f = defined x then line value (rw (value, h.value) at f)
+    pub host_advances : (then : Room) → then ≡ pick (is_ok a.answer) (keeping a.scheduler b) b → HostAdvances b t x then
+    host_advances then f = defined x then line value (rw (told-accepted a.answer, h.value) at f)

@@ -1,14 +1,18 @@
 -- An arrival for a C host, from the scheduler's: what it leaves is kept, or nothing is changed. Assumes nothing.
-use mathlib.Core.Path.{◌≡◌, refl, ap, subst⁻¹, ◌∙◌}
+use mathlib.Core.Path.{◌≡◌, refl, sym, ap, subst⁻¹, ◌∙◌}
 use mathlib.Core.Bool.{Bool, true, false}
 use mathlib.Core.List.{[], ◌∷◌}
 use mathlib.Core.Option.{none}
 use Prim.Native.Nat.{ℕ}
+use native.Mathlib.Omega.{arith}
 use lib.Dec.{eqb}
 use borrow.Author.Tests.{eqb-false}
+use Rattle.std.proofs.lemmas.Bool.{ne_eqb}
+use Rattle.std.specs.Result.{is_ok}
 use Rattle.std.specs.Prelude.{Result, Ok, Err}
 use Rattle.refusals.specs.declared.Refusal.{Refusal}
 use Rattle.refusals.specs.Numbers.{number}
+use Rattle.refusals.proofs.Laws.{number_least}
 use Rattle.room.specs.declared.Packet.{Packet}
 use Rattle.room.specs.declared.Room.{Room}
 use Rattle.scheduler_state.specs.declared.Scheduler.{Scheduler}
@@ -25,7 +29,7 @@ use Rattle.scheduler_kept.specs.Words.{scheduler_in}
 use Rattle.bilgethrum_values.specs.declared.HostPacket.{HostPacket}
 use Rattle.bilgethrum_values.specs.declared.HostArrival.{HostArrival}
 use Rattle.bilgethrum_values.specs.Host.{packet_from, host_arrival}
-use Rattle.bilgethrum.specs.Promises.{OnLine, keeping, if_accepted, arrived, arrived_words, HostArrives}
+use Rattle.bilgethrum.specs.Promises.{OnLine, keeping, arrived, arrived_words, HostArrives}
 use Rattle.bilgethrum.proofs.Kept.{keep_alike, steps_on}
 
 -- An answer with a refusal number is a refusal.
@@ -33,6 +37,12 @@ refusal : (a : Result Admitted Refusal) → ((host_arrival a).refusal ≡ 0 → 
 refusal (Ok (Admitted.Unmarked n e)) h = absurd (h refl)
 refusal (Ok (Admitted.Marked n)) h = absurd (h refl)
 refusal (Err r) h = (number r, refl)
+
+-- The refusal number is 0 where the call is accepted.
+told-accepted : (a : Result Admitted Refusal) → is_ok a ≡ eqb (host_arrival a).refusal 0
+told-accepted (Ok (Admitted.Unmarked n e)) = refl
+told-accepted (Ok (Admitted.Marked n)) = refl
+told-accepted (Err r) = sym (ne_eqb (number r) 0 (λ e. omega (arith, number_least r)))
 
 module _ (b : Room) (p : HostPacket) where
   abbrev s : Scheduler
@@ -79,7 +89,7 @@ module _ (b : Room) (p : HostPacket) where
     settled true i x = refl
     settled false i x = (unchanged (eqb-false _ _ i)).1
 
-    pub host_arrives : (then : Room) → then ≡ if_accepted x.refusal (keeping a.scheduler left) left → HostArrives b p x then
+    pub host_arrives : (then : Room) → then ≡ pick (is_ok a.answer) (keeping a.scheduler left) left → HostArrives b p x then
     host_arrives then f =
         defined x then line value
-        (rw (value, h.value, h.room) at f ∙ settled (eqb given.refusal 0) refl (keeping (arrived b p).scheduler (arrive_room s b q)))
+        (rw (told-accepted a.answer, h.value, h.room) at f ∙ settled (eqb given.refusal 0) refl (keeping (arrived b p).scheduler (arrive_room s b q)))

@@ -2,6 +2,7 @@
 #![tactic(auto)]
 
 ghost use Rattle.std.specs.Prelude.{◌≡◌};
+ghost use Rattle.scheduler_state.specs.Pick.{pick};
 ghost use Rattle.payload.specs.Part.{view_refusal};
 ghost use Rattle.payload.specs.View.{area_of};
 ghost use Rattle.block_columns.specs.Columns.{columns};
@@ -10,7 +11,7 @@ ghost use Rattle.run.specs.Ran.{Answers};
 ghost use Rattle.marker.specs.Calls.{call_of};
 ghost use Rattle.marker.specs.Machine.{FromOpening};
 ghost use Rattle.bilgethrum_values.specs.Host.{packet_from};
-ghost use Rattle.bilgethrum.specs.Promises.{OnLine, keeping, if_accepted, HostOpens, HostArrives, HostAdvances, tallied, HostReads, HostWrites};
+ghost use Rattle.bilgethrum.specs.Promises.{OnLine, keeping, HostOpens, HostArrives, HostAdvances, tallied, HostReads, HostWrites};
 ghost use Rattle.bilgethrum.specs.Markers.{HostOpensMarker, HostMarks};
 
 use bilgethrum_values::{
@@ -25,14 +26,13 @@ use scheduler_kept::scheduler_in;
 use scheduler_state::Scheduler;
 use units::{Bytes, Instant, Marking, Settings};
 
-// Keeps the scheduler in the line's words, unless the call was refused: then no word is changed.
-fn keep_accepted(refusal: u32, scheduler: Scheduler, line: &mut Room)
-    ensures { line.new ≡ if_accepted refusal (keeping scheduler line.old) line.old }
+// Keeps the scheduler in the line's words if the call was accepted; else no word is changed.
+fn keep_accepted(accepted: bool, scheduler: Scheduler, line: &mut Room)
+    ensures { line.new ≡ pick accepted (keeping scheduler line.old) line.old }
 {
-    if refusal != 0 {
-        return;
+    if accepted {
+        scheduler_kept::keep(scheduler, line);
     }
-    scheduler_kept::keep(scheduler, line);
 }
 
 // Opens a line, whatever stood in its words.
@@ -53,9 +53,8 @@ pub extern "C" fn bilgethrum_arrive(line: &mut Room, packet: HostPacket) -> Host
 {
     let scheduler = scheduler_in(line);
     let arrived = scheduler::arrive(scheduler, Packet::from(packet), line);
-    let given = HostArrival::from(arrived.answer);
-    keep_accepted(given.refusal, arrived.scheduler, line);
-    given
+    keep_accepted(arrived.answer.is_ok(), arrived.scheduler, line);
+    HostArrival::from(arrived.answer)
 }
 
 // The clock moves on to `at`, and one decision is taken if one is due by then. A refusal changes no word.
@@ -66,9 +65,8 @@ pub extern "C" fn bilgethrum_advance(line: &mut Room, at: u64) -> HostDecision
 {
     let scheduler = scheduler_in(line);
     let advanced = scheduler::advance(scheduler, Instant(at), line);
-    let decided = HostDecision::from(advanced.answer);
-    keep_accepted(decided.refusal, advanced.scheduler, line);
-    decided
+    keep_accepted(advanced.answer.is_ok(), advanced.scheduler, line);
+    HostDecision::from(advanced.answer)
 }
 
 // The five tallies.

@@ -1,4 +1,5 @@
-// What a C host hands over and is handed, as structs of numbers, to and from the types of the calls. They serve the crate `bilgethrum` only.
+// What a C host hands over and is handed, to and from the types of the calls: the structs of numbers that include/bilgethrum.h declares. They serve
+// the crate `bilgethrum` only.
 #![tactic(auto)]
 
 ghost use Rattle.std.specs.Prelude.{◌≡◌};

@@ -25,6 +25,7 @@ fn tell_file(rt: &(impl Files + Print + Eprint), path: &str) -> io::Result<()> {
         Ok(file) => file,
         Err(e) => return eprintln!(rt; "{path}: {e}"),
     };
+    // On the stack, as in the trace program.
     let mut image = [0u8; AREA];
     let got = read_full(&mut file, &mut image)?;
     tell(rt, &image[..got])

@@ -9,7 +9,7 @@ use room::{Packet, Room};
 use scheduler_state::Scheduler;
 use std::io;
 use text_digits::Area;
-use units::{Bytes, Instant, Marking, Settings, Ticks};
+use units::{Bytes, INSTANT_MOST, Instant, Marking, Settings, Ticks};
 
 // No line is longer.
 const LINE_MOST: usize = 107;
@@ -129,10 +129,10 @@ const CASE: [Call; 14] = [
 
 // The latest instant, and one tick later.
 const LATE: [Call; 4] = [
-    Unmarked(1, 1_000_000_000_000_000),
-    Marked(1, 1_000_000_000_000_001),
-    Advance(1_000_000_000_000_001),
-    Advance(1_000_000_000_000_000),
+    Unmarked(1, INSTANT_MOST),
+    Marked(1, INSTANT_MOST + 1),
+    Advance(INSTANT_MOST + 1),
+    Advance(INSTANT_MOST),
 ];
 
 // 65 arrivals of each marking, a start, one arrival more.

@@ -6,7 +6,8 @@ ghost use Rattle.std.specs.Prelude.{◌≤◌, length, IfOk};
 use std::io;
 use std::io::Read;
 
-// Reads until the area is full or the input ends, and returns how many bytes stand at the area's start.
+// Reads until the area is full or the input ends, and returns how many bytes stand at the area's start. No method of `Read` does: `read_exact`
+// fails where the input ends first, and `read_to_end` puts the bytes on the heap. How many reads it takes is not known before.
 pub fn read_full<R: Read>(input: &mut R, area: &mut [u8]) -> io::Result<usize>
     ensures { IfOk result (λ n. n ≤ length area.new) }
 {

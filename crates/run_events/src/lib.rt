@@ -2,9 +2,7 @@
 #![tactic(auto)]
 
 ghost use Rattle.std.specs.Prelude.{◌≡◌, ◌+◌, ◌*◌, ◌/◌, ◌^◌, ◌≤◌, ◌<◌, length};
-ghost use Rattle.rules.specs.Step.{advance};
 ghost use Rattle.scheduler.specs.Machine.{FromOpening};
-ghost use Rattle.scheduler.specs.Steps.{arrival_of};
 ghost use Rattle.text_lines.specs.Told.{Told};
 ghost use Rattle.run_events.specs.Calls.{call_of, coming_call};
 ghost use Rattle.run_events.specs.Plays.{Plays};
@@ -50,32 +48,22 @@ impl From<Event> for Coming {
     }
 }
 
-fn play_arrival(scheduler: Scheduler, packet: Packet, room: &mut Room, area: &mut Area) -> Scheduler
-    requires { FromOpening scheduler room.old × (area.old.at < 2 ^ 32) }
-    ensures { Plays area.old area.new scheduler room.old (arrival_of packet) result room.new }
-{
-    let arrived = arrive(scheduler, packet, room);
-    tell_admission(area, arrived.answer);
-    arrived.scheduler
-}
-
-fn play_advance(scheduler: Scheduler, at: Instant, room: &Room, area: &mut Area) -> Scheduler
-    requires { FromOpening scheduler room.now × (area.old.at < 2 ^ 32) }
-    ensures { Plays area.old area.new scheduler room.now (advance at.0) result room.now }
-{
-    let advanced = advance(scheduler, at, room);
-    tell_advance(area, advanced.answer);
-    advanced.scheduler
-}
-
 // Plays one event, and tells its line.
 fn play(event: Event, scheduler: Scheduler, room: &mut Room, area: &mut Area) -> Scheduler
     requires { FromOpening scheduler room.old × (area.old.at < 2 ^ 32) }
     ensures { Plays area.old area.new scheduler room.old (call_of event) result room.new }
 {
     match Coming::from(event) {
-        Coming::Arrival(packet) => play_arrival(scheduler, packet, room, area),
-        Coming::Advance(at) => play_advance(scheduler, at, room, area),
+        Coming::Arrival(packet) => {
+            let arrived = arrive(scheduler, packet, room);
+            tell_admission(area, arrived.answer);
+            arrived.scheduler
+        },
+        Coming::Advance(at) => {
+            let advanced = advance(scheduler, at, room);
+            tell_advance(area, advanced.answer);
+            advanced.scheduler
+        },
     }
 }
 

@@ -8,7 +8,7 @@ use std::process::ExitCode;
 // One byte more than the largest image is enough to know that an image is too long.
 const AREA: usize = IMAGE_MOST + 1;
 
-// Prints the text of the image from standard input, or tells what went wrong.
+// Prints the text of the image from standard input, or tells what went wrong. Both lie on the stack, as README promises.
 fn tell(rt: &HostRuntime) -> Result<(), &'static str> {
     let mut image = [0u8; AREA];
     let Ok(got) = read_full(&mut rt.stdin(), &mut image) else {
