@@ -52,7 +52,8 @@ pub fn admitted_unmarked(scheduler: Scheduler, time: Ticks, own: Ticks, at: Inst
     next
 }
 
-// An unmarked packet is admitted: it is entered in the difference queue.
+// An unmarked packet is admitted: it is entered in the difference queue. `Admits`, asked here and below, is of a scheduler and a packet together, which no
+// struct holds.
 fn admit_unmarked(scheduler: Scheduler, packet: Packet, room: &mut Room) -> Arrived
     requires { Admits scheduler packet }
     ensures value { result ≡ admit_unmarked scheduler packet }

@@ -44,7 +44,7 @@ fn passed(scheduler: Scheduler, time: Ticks, difference: Ticks) -> Extra
 }
 
 // A marked packet starts at the due instant; the clock is at `at`. Here and below a pair by marking stays two functions: what they count, delay and
-// promise differs.
+// promise differs. And `due` and `at` stay two arguments: a struct of both would be taken apart where each is used, once.
 pub fn started_marked(scheduler: Scheduler, due: Instant, time: Ticks, at: Instant) -> Scheduler
     requires { Small scheduler × (scheduler.tallies.started.marked < admissions_most) × (due.0 ≤ instant_most) × (time.0 ≤ times_most) }
     ensures { result ≡ started_marked scheduler due time at }

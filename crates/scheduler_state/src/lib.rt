@@ -149,7 +149,8 @@ impl Scheduler {
         Ticks(self.extra.last.0.saturating_sub(own.0))
     }
 
-    // Whether a marked packet of this transmission time may start before the first of so many waiting unmarked ones.
+    // Whether a marked packet of this transmission time may start before the first of so many waiting unmarked ones. That a transmission time is at most
+    // `times_most` is asked here and above, and is no invariant of `Ticks`: alpha and extra delays are ticks too, and settings may hold any numbers.
     pub fn fits(&self, waiting: u32, time: Ticks) -> bool
         requires { (self.now.extra.first.0 ≤ alpha_most) × (time.0 ≤ times_most) }
         ensures { result ≡ fits_of self.now.settings self.now.extra waiting time }
