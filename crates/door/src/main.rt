@@ -6,7 +6,7 @@ use refusals::Refusal;
 use std::io;
 use units::{Bytes, Instant, Marking};
 
-// Says how a packet goes on to the scheduler. To print it by a Display would take a type around the Result.
+// Says how a packet goes on to the scheduler. One place prints it: a type around the Result for a Display would be longer.
 fn tell(rt: &impl Print, answer: Result<Marking, Refusal>) -> io::Result<()> {
     match answer {
         Ok(Marking::Unmarked) => println!(rt; "unmarked"),

@@ -20,7 +20,7 @@ use units::{Bytes, Instant, Marking, Ticks};
 // A flow's words: its rate, its depth, what its bucket held when it was last looked at, and when that was. Depth and content are in millionths of a
 // byte. A C host lends these words and those of the marker as they are.
 #[repr(C)]
-#[derive(Clone, Copy)]
+#[derive(Clone, Copy, Default)]
 pub struct FlowWords {
     pub rate: u64,
     pub top: u64,
@@ -41,16 +41,10 @@ pub struct Marker {
 pub fn empty() -> Marker
     ensures { Empty result }
 {
-    let nothing = FlowWords {
-        rate: 0,
-        top: 0,
-        held: 0,
-        looked: 0,
-    };
     Marker {
         clock: 0,
         count: 0,
-        flows: [nothing; FLOWS_MOST],
+        flows: [FlowWords::default(); FLOWS_MOST],
     }
 }
 

@@ -19,7 +19,7 @@ pub struct Line {
 
 // All waiting unmarked transmission times; the extra delay of the first and of the last unmarked packet, waiting or, where none waits, as it
 // started.
-#[derive(Clone, Copy)]
+#[derive(Clone, Copy, Default)]
 pub struct Extra {
     pub sum: Ticks,
     pub first: Ticks,
@@ -104,11 +104,7 @@ impl Scheduler {
                 free: Instant(0),
                 last: Marking::Marked,
             },
-            extra: Extra {
-                sum: Ticks(0),
-                first: Ticks(0),
-                last: Ticks(0),
-            },
+            extra: Extra::default(),
             tallies: Tallies::default(),
         }
     }

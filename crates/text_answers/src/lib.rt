@@ -89,6 +89,5 @@ pub fn tell_refused_image(area: &mut Area, refusal: Refusal, block: u32, index: 
     requires { area.old.at < 2 ^ 32 }
     ensures { Tells area.old (values_text (88 ∷ number refusal ∷ block ∷ index ∷ [])) area.new }
 {
-    let number = u8::from(refusal);
-    tell_line(area, b'X', &[number as u64, block as u64, index as u64])
+    tell_line(area, b'X', &[refusal as u64, block as u64, index as u64])
 }
