@@ -92,10 +92,10 @@ fn reading(rt: &impl Print, image: &[u8]) -> io::Result<()> {
 
 // The same with an image that was cut within a block.
 fn cut(rt: &impl Print, image: &[u8]) -> io::Result<()> {
-    if 1000 <= image.len() {
-        reading(rt, &image[..1000])?;
+    match image.get(..1000) {
+        Some(part) => reading(rt, part),
+        None => Ok(()),
     }
-    Ok(())
 }
 
 // The same with one column that is one entry short of 32 events.

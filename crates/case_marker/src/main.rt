@@ -41,11 +41,10 @@ fn flows(count: u32, first: Flow, second: Flow) -> Flows {
 // These packets on a marker with these flows.
 fn play(rt: &impl Print, asked: Flows, packets: &[Packet]) -> io::Result<()> {
     let mut marker = marker::empty();
-    let number = match marker::open(asked, &mut marker) {
-        Ok(()) => 0,
-        Err(refusal) => u8::from(refusal),
-    };
-    println!(rt; "O {number}")?;
+    match marker::open(asked, &mut marker) {
+        Ok(()) => println!(rt; "O 0")?,
+        Err(refusal) => println!(rt; "O {}", u8::from(refusal))?,
+    }
     for (flow, length, at) in packets {
         let answer = marker::mark(*flow, *length, *at, &mut marker);
         println!(rt; "{}", Answer(answer))?;

@@ -24,10 +24,10 @@ enum Call {
 
 // Prints a line that was told to an area; one that did not fit is left out.
 fn print(rt: &impl Print, line: &Area) -> io::Result<()> {
-    if line.at <= line.out.len() {
-        rt.write_all(&line.out[..line.at])?;
+    match line.out.get(..line.at) {
+        Some(text) => rt.write_all(text),
+        None => Ok(()),
     }
-    Ok(())
 }
 
 // A scheduler and the room that its packets wait in.
