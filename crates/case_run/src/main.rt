@@ -44,12 +44,12 @@ fn tell_argument(rt: &(impl Files + Print + Eprint), argument: &[u8]) -> io::Res
 }
 
 fn main(rt: HostRuntime) -> io::Result<()> {
+    // No Strings, as `args` would give: a name that is longer than this stands for an empty one, which opens no file.
     let mut argument = [0u8; 64];
     for i in 1..usize::MAX {
         match rt.arg(i, &mut argument) {
             Ok(length) => tell_argument(&rt, &argument[..length])?,
             Err(FillError::NotPresent) => break,
-            // A longer name stands for an empty one, which opens no file.
             Err(FillError::TooLong) => tell_file(&rt, "")?,
         }
     }

@@ -2,6 +2,7 @@
 // as the trace program does.
 #![tactic(auto)]
 
+ghost use Rattle.std.specs.Prelude.{◌≡◌};
 ghost use Rattle.scheduler.specs.Machine.{FromOpening};
 
 use Call::{Advance, Marked, Unmarked};
@@ -25,7 +26,7 @@ enum Call {
 // Prints a line that was told to an area; one that did not fit is left out.
 fn print(rt: &impl Print, line: &Area) -> io::Result<()> {
     match line.out.get(..line.at) {
-        Some(text) => rt.write_all(text),
+        Some(told) => rt.write_all(told),
         None => Ok(()),
     }
 }
@@ -38,8 +39,8 @@ struct Line {
 }
 
 impl Line {
-    fn arrive(&mut self, rt: &impl Print, marking: Marking, length: u32, at: u64) -> io::Result<()>
-        requires { FromOpening self.old.scheduler self.old.room }
+    fn arrive(&mut self, marking: Marking, length: u32, at: u64, line: &mut Area)
+        requires { FromOpening self.old.scheduler self.old.room × (line.old.at ≡ 0) }
         ensures { FromOpening self.new.scheduler self.new.room }
     {
         let packet = Packet {
@@ -50,28 +51,16 @@ impl Line {
         };
         let arrived = scheduler::arrive(self.scheduler, packet, &mut self.room);
         self.scheduler = arrived.scheduler;
-        let mut bytes = [0u8; LINE_MOST];
-        let mut line = Area {
-            out: &mut bytes,
-            at: 0,
-        };
-        text_answers::tell_admission(&mut line, arrived.answer);
-        print(rt, &line)
+        text_answers::tell_admission(line, arrived.answer);
     }
 
-    fn advance(&mut self, rt: &impl Print, at: u64) -> io::Result<()>
-        requires { FromOpening self.old.scheduler self.old.room }
+    fn advance(&mut self, at: u64, line: &mut Area)
+        requires { FromOpening self.old.scheduler self.old.room × (line.old.at ≡ 0) }
         ensures { FromOpening self.new.scheduler self.new.room }
     {
         let advanced = scheduler::advance(self.scheduler, Instant(at), &self.room);
         self.scheduler = advanced.scheduler;
-        let mut bytes = [0u8; LINE_MOST];
-        let mut line = Area {
-            out: &mut bytes,
-            at: 0,
-        };
-        text_answers::tell_advance(&mut line, advanced.answer);
-        print(rt, &line)
+        text_answers::tell_advance(line, advanced.answer);
     }
 
     // One call, and its line.
@@ -79,11 +68,17 @@ impl Line {
         requires { FromOpening self.old.scheduler self.old.room }
         ensures { FromOpening self.new.scheduler self.new.room }
     {
+        let mut bytes = [0u8; LINE_MOST];
+        let mut line = Area {
+            out: &mut bytes,
+            at: 0,
+        };
         match call {
-            Unmarked(length, at) => self.arrive(rt, Marking::Unmarked, length, at),
-            Marked(length, at) => self.arrive(rt, Marking::Marked, length, at),
-            Advance(at) => self.advance(rt, at),
+            Unmarked(length, at) => self.arrive(Marking::Unmarked, length, at, &mut line),
+            Marked(length, at) => self.arrive(Marking::Marked, length, at, &mut line),
+            Advance(at) => self.advance(at, &mut line),
         }
+        print(rt, &line)
     }
 }
 

@@ -8,14 +8,16 @@ ghost use Rattle.run.specs.Text.{text_of};
 ghost use Rattle.run.specs.Most.{text_most, most_of};
 ghost use Rattle.run.specs.Ran.{Answers, Tells};
 
-use block_image::{ImageRefusal, Trace, judge_image};
+use block::BLOCK;
+use block_header::RECORDS_MOST;
+use block_image::{BLOCKS_MOST, ImageRefusal, Trace, judge_image};
 use refusals::Refusal;
 use run_events::tell_trace;
 use text_answers::tell_refused_image;
 use text_digits::Area;
 
-// No image is longer: 64 blocks of 512 bytes.
-pub const IMAGE_MOST: usize = 32_768;
+// No image is longer.
+pub const IMAGE_MOST: usize = BLOCKS_MOST * BLOCK;
 
 // No event's line is longer than this, nor the tally line than that.
 const LINE_MOST: usize = 35;
@@ -23,7 +25,7 @@ const LINE_MOST: usize = 35;
 const TALLY_MOST: usize = 27;
 
 // No text is longer.
-pub const TEXT_MOST: usize = 69_467;
+pub const TEXT_MOST: usize = LINE_MOST * BLOCKS_MOST * (RECORDS_MOST as usize) + TALLY_MOST;
 
 // No text of an image that is judged so is longer. A refused image's line is no longer than a tally line.
 fn most_of(judgement: Result<Trace, ImageRefusal>) -> usize
