@@ -26,6 +26,7 @@ fn sums(rt: &impl Print) -> io::Result<()> {
     println!(rt; "{:04x}", check_of(b"\x00\x00\xff\xff"))
 }
 
+// An answer is printed in one place, here and below: a type around the Result for a Display would be longer.
 fn show_reading(rt: &impl Print, answer: Result<Trace, ImageRefusal>) -> io::Result<()> {
     match answer {
         Ok(trace) => {

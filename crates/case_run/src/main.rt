@@ -45,6 +45,7 @@ fn tell_argument(rt: &(impl Files + Print + Eprint), argument: &[u8]) -> io::Res
 
 fn main(rt: HostRuntime) -> io::Result<()> {
     // No Strings, as `args` would give: a name that is longer than this stands for an empty one, which opens no file.
+    // std's `arg` fills a lent area, and tells how much of it.
     let mut argument = [0u8; 64];
     for i in 1..usize::MAX {
         match rt.arg(i, &mut argument) {

@@ -25,7 +25,7 @@ const LINE_MOST: usize = 35;
 const TALLY_MOST: usize = 27;
 
 // No text is longer.
-pub const TEXT_MOST: usize = LINE_MOST * BLOCKS_MOST * (RECORDS_MOST as usize) + TALLY_MOST;
+pub const TEXT_MOST: usize = LINE_MOST * BLOCKS_MOST * RECORDS_MOST + TALLY_MOST;
 
 // No text of an image that is judged so is longer. A refused image's line is no longer than a tally line.
 fn most_of(judgement: Result<Trace, ImageRefusal>) -> usize

@@ -1,4 +1,5 @@
 // Answers as lines: the letter and the numbers that document 01 prints for each, told to a lent area; pub functions serve the whole run.
+// No Display: where an area is too short the rest of a line is measured, as `Tells` says, and std's formatting promises no such thing.
 #![tactic(auto)]
 
 ghost use Rattle.std.specs.Prelude.{[], ◌∷◌, ◌^◌, ◌<◌};
