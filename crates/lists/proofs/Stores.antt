@@ -5,7 +5,7 @@ use Prim.Native.Nat.{ℕ, suc, ◌+◌, ◌*◌, ◌≤◌, ◌<◌}
 use native.Mathlib.Omega.{arith}
 use native.Mathlib.Nat.{add-zero, add-suc, suc-add, zero-add}
 use native.Mathlib.Numerals.{add-one}
-use lib.ListN.{length, get_or, set, take, drop, length-append, length-set}
+use lib.ListN.{length, get_or, set, take, drop, replicate, length-append, length-set, replicate-append-replicate}
 use lib.Seq.{sets, sets-eq, length-sets, set_comm, take_at, drop_at, length-take-le, drop-cons, set_at}
 use Rattle.lists.specs.Rows.{rows, tab, over}
 use Rattle.lists.proofs.Rows.{length-tab, length-rows}
@@ -39,6 +39,11 @@ unfolding rows
 stored_row w l at i g m m' h s f =
     let next = stored_more l at (w * i) (rows i g) m w (g i) m' s (h i) f in
     rw (add-one i) (stored l at (w * suc i) (rows (suc i) g) m' (length-rows w (suc i) g h) next.is)
+
+-- One more of the same element.
+pub stored_same : {A : Type 0} (a : A) (l : List A) (at i : ℕ) (m : List A) → Stored l at i (replicate i a) m → Stored l at (i + 1) (replicate (i + 1) a) (set m (at + i) a)
+stored_same a l at i m s =
+    rw (← replicate-append-replicate i 1 a) (stored_more l at i (replicate i a) m 1 (a ∷ []) (set m (at + i) a) s refl refl)
 
 -- What was stored stands there.
 pub window : {A : Type 0} (l : List A) (at n : ℕ) (vs : List A) → length vs ≡ n → at + n ≤ length l → take n (drop at (sets l at vs)) ≡ vs

@@ -1,13 +1,16 @@
 -- What is read in the words that an opening lays. Assumes nothing.
 use mathlib.Core.Path.{◌≡◌, refl, subst, ap, ◌∙◌}
-use mathlib.Core.List.{List, [], ◌∷◌}
+use mathlib.Core.List.{List, [], ◌∷◌, ◌++◌}
 use Prim.Native.Nat.{ℕ, zero, suc, ◌+◌, ◌≤◌, ◌<◌}
 use native.Mathlib.Omega.{arith}
 use native.Mathlib.Nat.{add-zero, zero-add, add-suc, suc-add}
+use native.Mathlib.Numerals.{add-one}
 use lib.ListN.{length, length-set, get_or, set}
 use lib.Seq.{get_or-set_same, get_or-set_other}
+use Rattle.lists.specs.Rows.{rows}
+use Rattle.lists.proofs.Rows.{length-tab}
 use Rattle.marker_flows.specs.declared.Flow.{Flow}
-use Rattle.marker_flows.specs.Flows.{flows_most, no_flow}
+use Rattle.marker_flows.specs.Flows.{flows_most, no_flow, first_flows}
 use Rattle.marker_rules.specs.Terms.{terms_of}
 use Rattle.marker_rules.specs.Bucket.{full}
 use Rattle.marker_rules.specs.Step.{fresh}
@@ -20,6 +23,35 @@ use Rattle.marker.specs.Stands.{FlowStands, Stands}
 -- The words with those of one flow more.
 abbrev one : Words → (i : ℕ) → Flow → Words
 one w i x = record { clock = w.clock; count = w.count; flows = set w.flows i (full_words x) }
+
+-- The flows one after the other.
+laid-append : (w : Words) (i : ℕ) (xs ys : List Flow) → laid w i (xs ++ ys) ≡ laid (laid w i xs) (i + length xs) ys
+laid-append w i [] ys = rw (add-zero i)
+laid-append w i (x ∷ xs) ys = rw (add-suc i (length xs), ← suc-add i (length xs)) (laid-append (one w i x) (suc i) xs ys)
+
+-- The flows of an array, one by one.
+pub laid_none : (w : Words) (each : List Flow) → w ≡ laid w 0 (first_flows 0 each)
+unfolding rows
+laid_none w each = refl
+
+pub laid_more : (w m : Words) (i : ℕ) (each : List Flow) → m ≡ laid w 0 (first_flows i each)
+    → one m i (get_or each i no_flow) ≡ laid w 0 (first_flows (i + 1) each)
+unfolding rows
+laid_more w m i each e =
+    rw (
+      e,
+      add-one i,
+      laid-append w 0 (first_flows i each) (get_or each i no_flow ∷ []),
+      zero-add (length (first_flows i each)),
+      length-tab i (λ k. get_or each k no_flow),
+    )
+
+pub laid_done : (w m : Words) (count i : ℕ) (each : List Flow) → i ≤ count → count ≤ i → m ≡ laid (record { clock = 0; count = count; flows = w.flows }) 0 (first_flows i each)
+    → m ≡ laid_all w (first_flows count each)
+laid_done w m count i each a b e =
+    let same : i ≡ count = omega arith in
+    rw (length-tab count (λ k. get_or each k no_flow))
+    (e ∙ ap (λ (k : ℕ). laid (record { clock = 0; count = count; flows = w.flows }) 0 (first_flows k each)) same)
 
 laid-length : (w : Words) (i : ℕ) (xs : List Flow) → length (laid w i xs).flows ≡ length w.flows
 laid-length w i [] = refl

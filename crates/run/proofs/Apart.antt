@@ -24,8 +24,8 @@ module _ (image other : List ℕ) (r : ImageRefusal) (refused-so : judged image 
       let b = refused-small other q.refusal q.block q.«record» e in
       let t =
       lines_read_back 88 88 (number r.refusal ∷ r.block ∷ r.«record» ∷ []) (number q.refusal ∷ q.block ∷ q.«record» ∷ []) [] []
-      (omega (arith, number_most r.refusal), (omega (arith, a.0), (omega (arith, a.1), tt)))
-      (omega (arith, number_most q.refusal), (omega (arith, b.0), (omega (arith, b.1), tt)))
+      (omega (arith, number_most r.refusal), (omega (arith, a.1), (omega (arith, a.2), tt)))
+      (omega (arith, number_most q.refusal), (omega (arith, b.1), (omega (arith, b.2), tt)))
       (append-nil _ ∙ h ∙ sym (append-nil _))
       in
       let same : (number r.refusal ∷ r.block ∷ r.«record» ∷ []) ≡ (number q.refusal ∷ q.block ∷ q.«record» ∷ []) = t.1 in

@@ -1,7 +1,7 @@
--- Decimal text: its length, and that the library's calls write it; and the length of a word. Assumes nothing.
-use mathlib.Core.Path.{◌≡◌, refl, subst}
+-- Decimal text: its last digits, its length, and that the library's calls write it; and the length of a word. Assumes nothing.
+use mathlib.Core.Path.{◌≡◌, refl, ap, subst, ◌∙◌}
 use mathlib.Core.Bool.{Bool, true, false, cond}
-use mathlib.Core.List.{List, [], ◌∷◌}
+use mathlib.Core.List.{List, [], ◌∷◌, ◌++◌}
 use Prim.Native.Nat.{ℕ, zero, suc, ◌+◌, ◌*◌, ◌/◌, ◌%◌, ◌^◌, ◌≤◌, ◌<◌}
 use native.Mathlib.Nat.{pow-suc}
 use native.Mathlib.Omega.{arith}
@@ -11,6 +11,29 @@ use borrow.Author.Tests.{lt-ltb, le-ltb, ltb-false}
 use Rattle.std.specs.Fmt as std
 use Rattle.std.proofs.lemmas.Fmt.{decimal_from_appends, length-decimal-le}
 use Rattle.text.specs.Text.{digit, digits_in, decimal, hex_digits_in, hexadecimal}
+
+-- Room for one digit more than there can be changes nothing.
+more : (f v : ℕ) → v < 10 ^ suc f → digits_in (suc f) v ≡ digits_in (suc (suc f)) v
+unfolding digits_in
+more zero v h = rw (lt-ltb v 10 h)
+more (suc f) v h =
+    let h' : v < 10 ^ suc f * 10 = subst (λ (k : ℕ). v < k) (pow-suc 10 (suc f)) h in
+    ap (λ (l : List ℕ). cond (ltb v 10) (digit v ∷ []) (l ++ digit (v % 10) ∷ [])) (more f (v / 10) (omega arith))
+
+opened : (f v : ℕ) → 10 ≤ v → digits_in (suc f) v ≡ digits_in f (v / 10) ++ digit (v % 10) ∷ []
+unfolding digits_in
+opened f v h = rw (le-ltb v 10 h)
+
+pub one-digit : (v : ℕ) → v < 10 → decimal v ≡ digit v ∷ []
+unfolding decimal digits_in
+one-digit v h = rw (lt-ltb v 10 h)
+
+pub last-digit : (v : ℕ) → 10 ≤ v → v < 10 ^ 20 → decimal v ≡ decimal (v / 10) ++ digit (v % 10) ∷ []
+unfolding decimal
+last-digit v h b = opened 19 v h ∙ ap (λ (l : List ℕ). l ++ digit (v % 10) ∷ []) (more 18 (v / 10) (omega arith))
+
+pub length_last : (v : ℕ) → 10 ≤ v → v < 10 ^ 20 → length (decimal v) ≡ length (decimal (v / 10)) + 1
+length_last v h b = ap length (last-digit v h b) ∙ length-append (decimal (v / 10)) _
 
 -- A number of k digits and one has so many, if there is room for them.
 digits_exact : (f k v : ℕ) → k < f → 10 ^ k ≤ v → v < 10 ^ suc k → length (digits_in f v) ≡ suc k
