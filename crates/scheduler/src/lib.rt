@@ -6,6 +6,7 @@
 ghost use Rattle.scheduler.specs.Machine.{FromOpening};
 ghost use Rattle.scheduler.specs.Promises.{Opens, Arrives, Advances};
 
+pub use refusals::Refusal;
 pub use room::{Packet, Room};
 pub use scheduler_answers::{Admitted, Advanced, Arrived, Opened, Start};
 use scheduler_state::Scheduler;
